@@ -1,0 +1,86 @@
+//! The STRING of the language.
+ghost use Rattle.std.specs.Prelude.{◌≡◌, ◌+◌, ◌<◌, ◌≤◌, ◌↔◌, [], ◌++◌, length, IsNone, IfSome};
+
+use arrayvec::ArrayVec;
+use std::marker::Model;
+
+/// A text of at most 255 bytes, which need not be UTF-8. Contracts see the list of its bytes.
+#[derive(Debug, PartialEq, Eq, Drop)]
+pub struct Text {
+    kept: ArrayVec<u8, 255>,
+}
+
+impl Model for Text {
+    ghost use Rattle.std.specs.Prelude.{List, ℕ, ◌≤◌, length};
+
+    ghost Value = { List ℕ };
+
+    ghost view = { λ text. text.kept.items };
+
+    ghost invariant = { λ text. length text.kept.items ≤ 255 };
+
+    ghost inverse = { λ bytes. record { kept = record { items = bytes } } };
+}
+
+impl Default for Text {
+    ghost is_default = { λ text. text ≡ [] };
+
+    fn default() -> Text {
+        Text::empty()
+    }
+}
+
+impl Text {
+    /// The text without bytes.
+    pub fn empty() -> Text
+        ensures { result ≡ [] }
+    {
+        Text {
+            kept: ArrayVec::new(),
+        }
+    }
+
+    /// The text with these bytes, or none where there are more than 255.
+    pub fn of(bytes: &[u8]) -> Option<Text>
+        ensures none { IsNone result ↔ (255 < length bytes.now) }
+        ensures some { IfSome result (λ text. text ≡ bytes.now) }
+        ensures within { IfSome result (λ text. length text ≤ 255) }
+    {
+        let mut kept = ArrayVec::new();
+        match kept.try_extend_from_slice(bytes) {
+            Ok(()) => Some(Text { kept }),
+            Err(_) => None,
+        }
+    }
+
+    /// The bytes of the text.
+    pub fn bytes(&self) -> &[u8]
+        ensures value { result.now ≡ self.now }
+        ensures within { length result.now ≤ 255 }
+    {
+        self.kept.as_slice()
+    }
+
+    /// This text followed by the other one, or none where they have more than 255 bytes together.
+    pub fn try_join(&self, other: &Text) -> Option<Text>
+        ensures none { IsNone result ↔ (255 < length self.now + length other.now) }
+        ensures some { IfSome result (λ text. text ≡ self.now ++ other.now) }
+        ensures within { IfSome result (λ text. length text ≤ 255) }
+    {
+        let mut joined = self.copy();
+        match joined.kept.try_extend_from_slice(other.kept.as_slice()) {
+            Ok(()) => Some(joined),
+            Err(_) => None,
+        }
+    }
+
+    /// The same text again. Takes no memory.
+    pub fn copy(&self) -> Text
+        ensures value { result ≡ self.now }
+        ensures within { length result ≤ 255 }
+    {
+        let mut kept = ArrayVec::new();
+        let _fits = kept.try_extend_from_slice(self.kept.as_slice());
+        Text { kept }
+    }
+}
