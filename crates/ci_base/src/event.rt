@@ -57,7 +57,7 @@ impl Event {
     pub fn is_same(&self, other: &Event) -> bool
         ensures { IsTrue result ↔ (self.now ≡ other.now) }
     {
-        self.soon == other.soon && self.what.is_same(&other.what)
+        self.soon == other.soon && self.what == other.what
     }
 }
 
@@ -93,56 +93,6 @@ impl EventKind {
             EventKind::Set { name, value } => EventKind::Set {
                 name: name.copy(),
                 value: value.copy(),
-            },
-        }
-    }
-
-    /// Whether both are the same.
-    pub fn is_same(&self, other: &EventKind) -> bool
-        ensures { IsTrue result ↔ (self.now ≡ other.now) }
-    {
-        match self {
-            EventKind::Run { name, list } => match other {
-                EventKind::Run {
-                    name: other_name,
-                    list: other_list,
-                } => name == other_name && list == other_list,
-                _ => false,
-            },
-            EventKind::Tick { ms } => match other {
-                EventKind::Tick { ms: other_ms } => ms == other_ms,
-                _ => false,
-            },
-            EventKind::Kill { n } => match other {
-                EventKind::Kill { n: other_n } => n == other_n,
-                _ => false,
-            },
-            EventKind::Suspend { n } => match other {
-                EventKind::Suspend { n: other_n } => n == other_n,
-                _ => false,
-            },
-            EventKind::Resume { n } => match other {
-                EventKind::Resume { n: other_n } => n == other_n,
-                _ => false,
-            },
-            EventKind::Put { name, sort, text } => match other {
-                EventKind::Put {
-                    name: other_name,
-                    sort: other_sort,
-                    text: other_text,
-                } => name == other_name && sort == other_sort && text == other_text,
-                _ => false,
-            },
-            EventKind::Signal { name } => match other {
-                EventKind::Signal { name: other_name } => name == other_name,
-                _ => false,
-            },
-            EventKind::Set { name, value } => match other {
-                EventKind::Set {
-                    name: other_name,
-                    value: other_value,
-                } => name == other_name && value == other_value,
-                _ => false,
             },
         }
     }

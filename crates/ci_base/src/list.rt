@@ -1,5 +1,5 @@
 //! The loose ticks of a run: those that tasks made after their last entries.
-ghost use Rattle.std.specs.Prelude.{◌≡◌, []};
+ghost use Rattle.std.specs.Prelude.{◌≡◌, ◌↔◌, [], IsTrue};
 
 use std::alloc::Global;
 use std::marker::Model;
@@ -45,6 +45,13 @@ impl LooseList {
         LooseList {
             kept: Vec::new(alloc),
         }
+    }
+
+    /// Whether both are the same.
+    pub fn is_same(&self, other: &LooseList) -> bool
+        ensures { IsTrue result ↔ (self.now ≡ other.now) }
+    {
+        self.members() == other.members()
     }
 
     /// The members, by rising numbers of tasks.

@@ -1,5 +1,5 @@
 //! How tasks are started, answered and lent.
-ghost use Rattle.std.specs.Prelude.{◌≡◌, ◌<◌, ◌≤◌, [], ◌∷◌, ◌++◌, length};
+ghost use Rattle.std.specs.Prelude.{◌≡◌, ◌<◌, ◌≤◌, [], ◌∷◌, ◌++◌, ◌↔◌, length, IsTrue};
 ghost use Rattle.ci_base.specs.declared.reply.Answer.{Answer};
 
 use crate::{Answer, Value};
@@ -52,6 +52,13 @@ impl Args {
         self.kept.push(value);
     }
 
+    /// Whether both are the same.
+    pub fn is_same(&self, other: &Args) -> bool
+        ensures { IsTrue result ↔ (self.now ≡ other.now) }
+    {
+        self.values() == other.values()
+    }
+
     /// The values, in order.
     pub fn values(&self) -> &[Value]
         ensures value { result.now ≡ self.now }
@@ -94,6 +101,13 @@ impl Birth {
             function: self.function,
             args: self.args.copy(),
         }
+    }
+
+    /// Whether both are the same.
+    pub fn is_same(&self, other: &Birth) -> bool
+        ensures { IsTrue result ↔ (self.now ≡ other.now) }
+    {
+        self.task == other.task && self.function == other.function && self.args.is_same(&other.args)
     }
 }
 
@@ -165,6 +179,23 @@ impl Woken {
         ensures { self.new ≡ self.old ++ delivery ∷ [] }
     {
         self.kept.push(delivery);
+    }
+
+    /// Whether both are the same.
+    pub fn is_same(&self, other: &Woken) -> bool
+        ensures { IsTrue result ↔ (self.now ≡ other.now) }
+    {
+        let ours = self.deliveries();
+        let theirs = other.deliveries();
+        if ours.len() != theirs.len() {
+            return false;
+        }
+        for i in 0..ours.len() {
+            if ours[i] != theirs[i] {
+                return false;
+            }
+        }
+        true
     }
 
     /// The deliveries, in order.
