@@ -13,6 +13,8 @@ mod place;
 mod reply;
 mod request;
 mod task;
+#[cfg(test)]
+mod tests;
 mod text;
 mod value;
 
