@@ -1,5 +1,9 @@
 //! A shelf and a sink in memory, and those whose counts of faults stay 0.
-ghost use Rattle.std.specs.Prelude.{◌≡◌, ◌<◌, []};
+ghost use Rattle.std.specs.Prelude.{◌≡◌, ℕ, ◌+◌, ◌-◌, ◌^◌, ◌<◌, ◌≤◌, ◌↔◌, [], length, take, min, Contains, Some, IfOk, OnOk, OnErr, IsErr, IsErrOf};
+ghost use Rattle.std.specs.Io.KnownBytes.{Appends, Keeps};
+ghost use Rattle.ci_outside.specs.Causes.{Rose};
+ghost use Rattle.ci_outside.specs.Shelf.{HasFile, LacksFile, HasLongFile};
+ghost use Rattle.ci_outside.specs.Memory.{by_name};
 
 use crate::{Failed, Fetch, NamedFiles, NumberList, Shelf, Sink};
 use ci_base::Bytes;
@@ -50,7 +54,19 @@ impl Shelf for MemShelf {
 
     ghost faults = { λ shelf. shelf.faults };
 
-    fn fetch(&mut self, alloc: Global, name: &Bytes, limit: u32) -> Result<Bytes, Fetch> {
+    fn fetch(&mut self, alloc: Global, name: &Bytes, limit: u32) -> Result<Bytes, Fetch>
+        ensures content { IfOk result (λ content. HasFile (Some (by_name self.old.files)) name.now content) }
+        ensures within { IfOk result (λ content. length content ≤ limit) }
+        ensures absent { IsErrOf result Fetch.Absent → LacksFile (Some (by_name self.old.files)) name.now }
+        ensures too_long { IsErrOf result Fetch.TooLong → HasLongFile (Some (by_name self.old.files)) name.now limit }
+        ensures failed { IsErrOf result Fetch.Failed → Rose self.old.faults self.new.faults }
+        ensures kept { Some (by_name self.new.files) ≡ Some (by_name self.old.files) }
+        ensures later { self.old.faults ≤ self.new.faults }
+        ensures numbered { self.new.fetches ≡ min (self.old.fetches + 1) (2 ^ 64 - 1) }
+        ensures fails { IsErrOf result Fetch.Failed ↔ Contains self.old.failing self.new.fetches }
+        ensures calm { (IsErrOf result Fetch.Failed → ⊥) → self.new.faults ≡ self.old.faults }
+        ensures same { (self.new.files ≡ self.old.files) × (self.new.failing ≡ self.old.failing) }
+    {
         self.fetches = self.fetches.saturating_add(1);
         if self.failing.contains(self.fetches) {
             self.faults = self.faults.saturating_add(1);
@@ -158,7 +174,19 @@ impl Sink for MemSink {
     ghost faults = { λ sink. sink.faults };
 
     /// A growth for which there is no memory is a fault too.
-    fn put(&mut self, piece: &[u8]) -> Result<usize, Failed> {
+    fn put(&mut self, piece: &[u8]) -> Result<usize, Failed>
+        ensures within { IfOk result (λ taken. taken ≤ length piece.now) }
+        ensures some { 0 < length piece.now → IfOk result (λ taken. 0 < taken) }
+        ensures taken { IfOk result (λ taken. Appends (Some self.old.bytes) (Some self.new.bytes) (take taken piece.now)) }
+        ensures unchanged { OnErr result (Keeps (Some self.old.bytes) (Some self.new.bytes)) }
+        ensures failed { OnErr result (Rose self.old.faults self.new.faults) }
+        ensures later { self.old.faults ≤ self.new.faults }
+        ensures most { IfOk result (λ taken. taken ≡ min (length piece.now) self.old.most) }
+        ensures numbered { self.new.puts ≡ min (self.old.puts + 1) (2 ^ 64 - 1) }
+        ensures fails { Contains self.old.failing self.new.puts → IsErr result }
+        ensures calm { OnOk result (self.new.faults ≡ self.old.faults) }
+        ensures same { (self.new.most ≡ self.old.most) × (self.new.failing ≡ self.old.failing) }
+    {
         self.puts = self.puts.saturating_add(1);
         if self.failing.contains(self.puts) {
             self.faults = self.faults.saturating_add(1);
