@@ -1,5 +1,5 @@
 //! The files and the standard output of the machine: the edge, of whose bytes contracts tell nothing.
-ghost use Rattle.std.specs.Prelude.{◌≡◌, ◌+◌, ◌-◌, ◌^◌, ◌≤◌, length, min, IfOk};
+ghost use Rattle.std.specs.Prelude.{◌≡◌, ◌≤◌, length, IfOk};
 
 use crate::{Failed, Fetch, Shelf, Sink};
 use ci_base::Bytes;
@@ -36,6 +36,14 @@ impl<'r, R: Files> DirShelf<'r, R> {
         ensures { result ≡ 0 }
     {
         DirShelf { machine, faults: 0 }
+    }
+
+    /// How many faults there were.
+    #[cfg(test)]
+    pub(crate) fn faults(&self) -> u64
+        ensures { result ≡ self.now }
+    {
+        self.faults
     }
 }
 
@@ -132,6 +140,14 @@ impl<'r, R: Print> OutSink<'r, R> {
         ensures { result ≡ 0 }
     {
         OutSink { machine, faults: 0 }
+    }
+
+    /// How many faults there were.
+    #[cfg(test)]
+    pub(crate) fn faults(&self) -> u64
+        ensures { result ≡ self.now }
+    {
+        self.faults
     }
 }
 
