@@ -23,11 +23,13 @@ pub enum Fetch {
 ///
 /// A shelf may tell contracts its files, as a map from names to contents, or tell none.
 pub trait Shelf {
+    // The contents by names, where the shelf tells them.
     ghost files: { Self → Option Files };
 
+    // The count of the faults so far. It never falls, and stays at its last value, 2^64 - 1.
     ghost faults: { Self → ℕ };
 
-    /// The content of the file of this name, at most `limit` bytes.
+    /// The content of the file of this name, at most `limit` bytes. Each refusal but `Memory` has its cause.
     fn fetch(&mut self, alloc: Global, name: &Bytes, limit: u32) -> Result<Bytes, Fetch>
         ensures content { IfOk result (λ content. HasFile (files self.old) name.now content) }
         ensures within { IfOk result (λ content. length content ≤ limit) }

@@ -12,8 +12,10 @@ pub struct Failed;
 ///
 /// A sink may tell contracts the bytes that it has taken, or tell none.
 pub trait Sink {
+    // All bytes that the sink has taken, where it tells them.
     ghost bytes: { Self → Option (List ℕ) };
 
+    // The count of the faults so far. It never falls, and stays at its last value, 2^64 - 1.
     ghost faults: { Self → ℕ };
 
     /// Takes a front of the piece, and tells how many bytes of it: at least one of a piece that isn't empty.
