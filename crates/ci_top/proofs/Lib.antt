@@ -1,0 +1,7 @@
+pub mod Prefixes
+pub mod Calls
+pub mod Reading
+pub mod Running
+pub mod Writing
+pub mod Deciding
+pub mod Causes

@@ -1,0 +1,5 @@
+use Rattle.ci_top.proofs.Causes.{one_cause_lem}
+use Rattle.ci_top.proofs.laws.one_cause.Goals as goal
+
+pub returns : goal.returns
+returns c = one_cause_lem

@@ -1,0 +1,9 @@
+use Rattle.ci_top.proofs.tell.put_decision.Goals as goal
+
+pub returns-in-NotFetched : goal.returns-in-NotFetched
+returns-in-NotFetched g c =
+    rw c.in-NotFetched.is
+    (rw (c.bytes-in-NotFetched.ensures.value, c.file_words.ensures, c.bytes-in-NotFetched-2.ensures) at c.put_three.ensures)
+
+pub returns-in-Ran : goal.returns-in-Ran
+returns-in-Ran g c = rw c.in-Ran.is c.write_report.ensures

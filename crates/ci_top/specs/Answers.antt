@@ -1,0 +1,150 @@
+-- Why the top call answers what it answers.
+--
+-- Each answer has a cause that holds, and its text and status are those of its cause, unless a put failed. A later order
+-- adds a cause and its row in each table, and changes nothing else.
+use Rattle.std.specs.Prelude.{◌≡◌, ℕ, ◌+◌, ◌≤◌, List, [], ◌∷◌, ◌++◌, length, codes, decimal, Option, Ok, Err, ◌⊎◌}
+use Rattle.std.specs.Io.KnownBytes.{Appends}
+use Rattle.ci_base.specs.declared.entry.Entry.{Entry}
+use Rattle.ci_base.specs.declared.limits.Ending.{Ending}
+use Rattle.ci_base.specs.declared.limits.Ending.TheVariants as endings
+use Rattle.ci_base.specs.declared.list.Loose.{Loose}
+use Rattle.ci_outside.specs.Causes.{Rose}
+use Rattle.ci_outside.specs.Shelf.{Files, HasFile, LacksFile, HasLongFile}
+use Rattle.ci_outside.specs.Sink.{AppendsFront}
+use Rattle.ci_top.specs.declared.decision.FileFault.{FileFault}
+use Rattle.ci_top.specs.declared.decision.FileFault.TheVariants as faults
+use Rattle.ci_top.specs.declared.decision.WordsFault.{WordsFault}
+use Rattle.ci_top.specs.declared.decision.WordsFault.TheVariants as words_faults
+use Rattle.ci_top.specs.declared.outcome.Outcome.{Outcome}
+use Rattle.ci_tree.specs.declared.project.Project.{Project}
+use Rattle.ci_top.specs.Defaults.{default_script, default_budget, source_limit}
+use Rattle.ci_top.specs.FirstForm.{Compiles}
+use Rattle.ci_top.specs.Order.{Order, order}
+use Rattle.ci_top.specs.Report.{report}
+use Rattle.ci_top.specs.Work.{FitsLoose, Ends}
+use Rattle.ci_top.specs.World.{World, Run}
+
+-- what an outcome keeps of a run
+pub record Kept : Type 0 where
+  pub history : List Entry
+  pub loose : List Loose
+  pub ending : Ending
+
+abbrev pub kept_of : Outcome → Kept
+kept_of outcome = record { history = outcome.history.entries; loose = outcome.loose; ending = outcome.ending }
+
+-- there was no run
+abbrev pub nothing_kept : Kept
+nothing_kept = record { history = []; loose = []; ending = endings.NotRun }
+
+-- the files of these names have these contents, if the shelf tells, and each is within the limit
+abbrev pub Fetched : Option Files → List (List ℕ) → List (List ℕ) → Type 0
+Fetched files [] [] = Unit {0}
+Fetched files (name ∷ names) (content ∷ contents) = HasFile files name content × (length content ≤ source_limit) × Fetched files names contents
+Fetched files [] (content ∷ contents) = ⊥
+Fetched files (name ∷ names) [] = ⊥
+
+-- the words are in order, and the file of this number, from 1, is the next to be fetched: those before it were fetched
+pub record ComesTo (words : List (List ℕ)) (files : Option Files) (number : ℕ) (name : List ℕ) : Type 0 where
+  pub asked : Order
+  pub words_are : order words ≡ Ok asked
+  pub before : List (List ℕ)
+  pub after : List (List ℕ)
+  pub names_are : asked.names ≡ before ++ name ∷ after
+  pub number_is : number ≡ length before + 1
+  pub contents : List (List ℕ)
+  pub fetched : Fetched files before contents
+
+-- the words are in order, and all files were fetched
+pub record HasAll (words : List (List ℕ)) (files : Option Files) (contents : List (List ℕ)) : Type 0 where
+  pub asked : Order
+  pub words_are : order words ≡ Ok asked
+  pub fetched : Fetched files asked.names contents
+
+-- The history is a run of the preemptive machine on the project of the sources read; this is the world after it, the loose
+-- ticks are made there, and the run ends as it says.
+pub record IsRun (words : List (List ℕ)) (files : Option Files) (kept : Kept) (project : Project) (world : World) : Type 0 where
+  pub contents : List (List ℕ)
+  pub read : HasAll words files contents
+  pub compiled : Compiles contents project
+  pub run : Run project default_script kept.history world
+  pub loose : FitsLoose project world kept.loose
+  pub ends : Ends world kept.history kept.loose default_budget kept.ending
+
+-- the sources were all fetched, and no project is theirs; the first of them has this name
+pub record IsRefused (words : List (List ℕ)) (files : Option Files) (name : List ℕ) : Type 0 where
+  pub contents : List (List ℕ)
+  pub read : HasAll words files contents
+  pub refused : (project : Project) → Compiles contents project → ⊥
+  pub first : ComesTo words files 1 name
+
+-- why an order is answered as it is
+pub data Cause : Type 0 where
+  words_refused : (fault : WordsFault) → Cause
+  not_fetched : (fault : FileFault) → (number : ℕ) → (name : List ℕ) → Cause
+  source_refused : (name : List ℕ) → Cause
+  no_memory : Cause
+  ran : (project : Project) → (world : World) → Cause
+
+-- a file isn't fetched: none has its name, the shelf's faults rose, or it is longer than the limit
+abbrev pub FaultHolds : Option Files → ℕ → ℕ → FileFault → List ℕ → Type 0
+FaultHolds files before now faults.Absent name = LacksFile files name
+FaultHolds files before now faults.ReadFault name = Rose before now
+FaultHolds files before now faults.TooLong name = HasLongFile files name source_limit
+
+-- the cause holds; nothing is kept but of a run
+abbrev pub Holds : List (List ℕ) → Option Files → ℕ → ℕ → Kept → Cause → Type 0
+Holds words files before now kept (words_refused fault) = (kept ≡ nothing_kept) × (order words ≡ Err fault)
+Holds words files before now kept (not_fetched fault number name) =
+    (kept ≡ nothing_kept) × ComesTo words files number name × FaultHolds files before now fault name
+Holds words files before now kept (source_refused name) = (kept ≡ nothing_kept) × IsRefused words files name
+Holds words files before now kept no_memory = (kept ≡ nothing_kept) × (asked : Order) × (order words ≡ Ok asked)
+Holds words files before now kept (ran project world) = IsRun words files kept project world
+
+abbrev pub ending_status : Ending → ℕ
+ending_status endings.Finished = 0
+ending_status endings.Resting = 7
+ending_status endings.Spent = 8
+ending_status endings.NotRun = 0
+
+abbrev pub fault_status : FileFault → ℕ
+fault_status faults.Absent = 3
+fault_status faults.ReadFault = 15
+fault_status faults.TooLong = 9
+
+-- the status of a cause
+abbrev pub status_of : Kept → Cause → ℕ
+status_of kept (words_refused fault) = 2
+status_of kept (not_fetched fault number name) = fault_status fault
+status_of kept (source_refused name) = 1
+status_of kept no_memory = 6
+status_of kept (ran project world) = ending_status kept.ending
+
+abbrev pub fault_text : FileFault → List ℕ
+fault_text faults.Absent = codes "absent"
+fault_text faults.ReadFault = codes "read fault"
+fault_text faults.TooLong = codes "too long"
+
+abbrev pub words_text : WordsFault → List ℕ
+words_text (words_faults.NotBuilt index) = codes "words " ++ decimal index ++ codes ": form not built\n"
+
+-- the text of a cause
+abbrev pub text_of : Kept → Cause → List ℕ
+text_of kept (words_refused fault) = words_text fault
+text_of kept (not_fetched fault number name) =
+    codes "file " ++ decimal number ++ codes " " ++ fault_text fault ++ codes ": " ++ name ++ codes "\n"
+text_of kept (source_refused name) = name ++ codes ":1:1: form not built\n"
+text_of kept no_memory = codes "out of memory\n"
+text_of kept (ran project world) = report project kept.history world kept.loose kept.ending
+
+-- the text was put whole, and the status is the one that is due; or a put failed, a front of the text was put, and the status is 5
+abbrev pub Delivers : {K : Type 0} → (K → Option (List ℕ)) → (K → ℕ) → K → K → ℕ → List ℕ → ℕ → Type 0
+Delivers bytes faults before after due text status =
+    ((status ≡ due) × Appends (bytes before) (bytes after) text)
+    ⊎ ((status ≡ 5) × Rose (faults before) (faults after) × AppendsFront (bytes before) (bytes after) text)
+
+-- The answer of an order has a cause that holds. Its text and status are those of the cause, unless a put failed.
+pub record Answers {S K : Type 0} (files : S → Option Files) (shelf_faults : S → ℕ) (bytes : K → Option (List ℕ)) (sink_faults : K → ℕ) (words : List (List ℕ)) (shelf shelf_after : S) (out out_after : K) (outcome : Outcome) : Type 0 where
+  pub cause : Cause
+  pub holds : Holds words (files shelf) (shelf_faults shelf) (shelf_faults shelf_after) (kept_of outcome) cause
+  pub delivers : Delivers bytes sink_faults out out_after (status_of (kept_of outcome) cause) (text_of (kept_of outcome) cause) outcome.status

@@ -1,0 +1,14 @@
+pub mod Lists
+pub mod Meaning
+pub mod Shared
+pub mod World
+pub mod Work
+pub mod History
+pub mod Report
+pub mod Order
+pub mod Defaults
+pub mod FirstForm
+pub mod Answers
+pub mod Ran
+pub mod Decisions
+pub mod OneCause

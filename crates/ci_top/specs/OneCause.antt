@@ -1,0 +1,31 @@
+-- An order has one cause.
+use Rattle.std.specs.Prelude.{◌≡◌, ℕ, Bool, true, false, ◌&&◌, ◌||◌, List, Some, IsTrue, ◌⊎◌}
+use Rattle.ci_outside.specs.Causes.{Rose}
+use Rattle.ci_outside.specs.Shelf.{Files}
+use Rattle.ci_top.specs.Answers.{Kept, Cause, words_refused, not_fetched, source_refused, no_memory, ran, Holds}
+
+abbrev pub is_memory : Cause → Bool
+is_memory (words_refused fault) = false
+is_memory (not_fetched fault number name) = false
+is_memory (source_refused name) = false
+is_memory no_memory = true
+is_memory (ran project world) = false
+
+abbrev pub is_run : Cause → Bool
+is_run (words_refused fault) = false
+is_run (not_fetched fault number name) = false
+is_run (source_refused name) = false
+is_run no_memory = false
+is_run (ran project world) = true
+
+-- the causes are the same, or one of them is want of memory, or both are runs
+abbrev pub Agree : Cause → Cause → Type 0
+Agree cause other = (cause ≡ other) ⊎ IsTrue (is_memory cause || is_memory other || (is_run cause && is_run other))
+
+-- Over a shelf that tells its files and whose faults don't rise, two causes that hold of the same words agree. So each answer
+-- comes exactly where its cause holds, but for want of memory.
+abbrev pub OneCause : Type 0
+OneCause =
+    (words : List (List ℕ)) (files : Files) (before now : ℕ) (kept kept' : Kept) (cause other : Cause)
+    → (Rose before now → ⊥) → Holds words (Some files) before now kept cause → Holds words (Some files) before now kept' other
+    → Agree cause other

@@ -1,0 +1,68 @@
+//! The top call.
+ghost use Rattle.std.specs.Prelude.{◌≡◌};
+ghost use Rattle.ci_top.specs.Answers.{Answers, kept_of};
+ghost use Rattle.ci_top.specs.Decisions.{decision_kept};
+
+use crate::decide::decide;
+use crate::decision::Decision;
+use crate::history::History;
+use crate::outcome::Outcome;
+use crate::tell::deliver;
+use ci_base::{Bytes, Ending, LooseList};
+use ci_outside::{Gate, Shelf, Sink};
+use std::alloc::Global;
+
+/// Does the order that the words give, without worker threads: fetches its files from the shelf, puts its text into the
+/// sink, and gives its exit status and what it kept of a run.
+///
+/// The words are those after the program's name. Want of memory (status 6) may come in any order whose words are accepted.
+pub fn cicode_alone<S: Shelf, K: Sink>(
+    alloc: Global,
+    words: &[Bytes],
+    shelf: &mut S,
+    out: &mut K,
+) -> Outcome
+    ensures answer { Answers S.files S.faults K.bytes K.faults words.now shelf.old shelf.new out.old out.new result }
+    ensures contents { S.files shelf.new ≡ S.files shelf.old }
+{
+    let decision = decide(alloc, words, shelf);
+    let status = deliver(&decision, out);
+    keep(alloc, decision, status)
+}
+
+/// Does the order that the words give, as `cicode_alone` does. The gate is for orders with worker threads, which can't be
+/// done yet.
+pub fn cicode<S: Shelf, K: Sink, G: Gate + Sync>(
+    alloc: Global,
+    words: &[Bytes],
+    shelf: &mut S,
+    out: &mut K,
+    _gate: &G,
+) -> Outcome
+    ensures answer { Answers S.files S.faults K.bytes K.faults words.now shelf.old shelf.new out.old out.new result }
+    ensures contents { S.files shelf.new ≡ S.files shelf.old }
+{
+    cicode_alone(alloc, words, shelf, out)
+}
+
+/// What is kept of an order.
+fn keep(alloc: Global, decision: Decision, status: u8) -> Outcome
+    ensures status { result.status ≡ status }
+    ensures kept { kept_of result ≡ decision_kept decision.entry }
+{
+    let loose = LooseList::empty(alloc);
+    match decision {
+        Decision::Ran(ran) => Outcome {
+            status,
+            history: ran.history,
+            loose,
+            ending: ran.end.ending,
+        },
+        _ => Outcome {
+            status,
+            history: History::empty(alloc),
+            loose,
+            ending: Ending::NotRun,
+        },
+    }
+}
