@@ -5,3 +5,4 @@ pub mod Running
 pub mod Writing
 pub mod Deciding
 pub mod Causes
+pub mod Plain

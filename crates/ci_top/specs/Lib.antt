@@ -12,3 +12,4 @@ pub mod Answers
 pub mod Ran
 pub mod Decisions
 pub mod OneCause
+pub mod Plain

@@ -1,6 +1,9 @@
 //! The top call.
-ghost use Rattle.std.specs.Prelude.{◌≡◌};
+ghost use Rattle.std.specs.Prelude.{◌≡◌, ◌⊎◌, IsErr};
+ghost use Rattle.ci_outside.specs.Causes.{Rose};
 ghost use Rattle.ci_top.specs.Answers.{Answers, kept_of};
+ghost use Rattle.ci_top.specs.Order.{order};
+ghost use Rattle.ci_top.specs.Plain.{IsReported, KeepsNothing};
 ghost use Rattle.ci_top.specs.Decisions.{decision_kept};
 
 use crate::decide::decide;
@@ -24,10 +27,23 @@ pub fn cicode_alone<S: Shelf, K: Sink>(
 ) -> Outcome
     ensures answer { Answers S.files S.faults K.bytes K.faults words.now shelf.old shelf.new out.old out.new result }
     ensures contents { S.files shelf.new ≡ S.files shelf.old }
+
+    // Status 0 tells a run of the preemptive machine that has finished, and its report was put.
+    ensures reported { result.status ≡ 0 → IsReported words.now (S.files shelf.old) (K.bytes out.old) (K.bytes out.new) result }
+
+    // No fault is made up.
+    ensures write_fault { result.status ≡ 5 → Rose (K.faults out.old) (K.faults out.new) }
+    ensures read_fault { result.status ≡ 15 → Rose (S.faults shelf.old) (S.faults shelf.new) }
+
+    // The words are refused exactly where they are not in order, unless a put fails.
+    ensures words { result.status ≡ 2 → IsErr (order words.now) }
+    ensures words_always { IsErr (order words.now) → (result.status ≡ 2) ⊎ (result.status ≡ 5) }
+
+    // A run that has begun is never answered by want of memory, and without a run nothing is kept.
+    ensures memory { result.status ≡ 6 → result.ending ≡ Ending.NotRun }
+    ensures refused { result.ending ≡ Ending.NotRun → KeepsNothing result }
 {
-    let decision = decide(alloc, words, shelf);
-    let status = deliver(&decision, out);
-    keep(alloc, decision, status)
+    answer(alloc, words, shelf, out)
 }
 
 /// Does the order that the words give, as `cicode_alone` does. The gate is for orders with worker threads, which can't be
@@ -41,8 +57,33 @@ pub fn cicode<S: Shelf, K: Sink, G: Gate + Sync>(
 ) -> Outcome
     ensures answer { Answers S.files S.faults K.bytes K.faults words.now shelf.old shelf.new out.old out.new result }
     ensures contents { S.files shelf.new ≡ S.files shelf.old }
+
+    // Status 0 tells a run of the preemptive machine that has finished, and its report was put.
+    ensures reported { result.status ≡ 0 → IsReported words.now (S.files shelf.old) (K.bytes out.old) (K.bytes out.new) result }
+
+    // No fault is made up.
+    ensures write_fault { result.status ≡ 5 → Rose (K.faults out.old) (K.faults out.new) }
+    ensures read_fault { result.status ≡ 15 → Rose (S.faults shelf.old) (S.faults shelf.new) }
+
+    // The words are refused exactly where they are not in order, unless a put fails.
+    ensures words { result.status ≡ 2 → IsErr (order words.now) }
+    ensures words_always { IsErr (order words.now) → (result.status ≡ 2) ⊎ (result.status ≡ 5) }
+
+    // A run that has begun is never answered by want of memory, and without a run nothing is kept.
+    ensures memory { result.status ≡ 6 → result.ending ≡ Ending.NotRun }
+    ensures refused { result.ending ≡ Ending.NotRun → KeepsNothing result }
 {
     cicode_alone(alloc, words, shelf, out)
+}
+
+/// Decides the order, tells what became of it, and keeps its run.
+fn answer<S: Shelf, K: Sink>(alloc: Global, words: &[Bytes], shelf: &mut S, out: &mut K) -> Outcome
+    ensures answer { Answers S.files S.faults K.bytes K.faults words.now shelf.old shelf.new out.old out.new result }
+    ensures contents { S.files shelf.new ≡ S.files shelf.old }
+{
+    let decision = decide(alloc, words, shelf);
+    let status = deliver(&decision, out);
+    keep(alloc, decision, status)
 }
 
 /// What is kept of an order.
