@@ -12,6 +12,8 @@ mod outcome;
 mod report;
 mod run;
 mod tell;
+#[cfg(test)]
+mod tests;
 mod top;
 
 pub use decision::{FileFault, WordsFault};
