@@ -1,12 +1,16 @@
+ghost use Rattle.std.specs.Prelude.{◌≡◌, ◌+◌, ◌≤◌, length, vec_len, IfOk};
+
 use crate::*;
+use itoa::Buffer;
+use std::alloc::{AllocError, Global};
 use std::test::Fail;
 
 /// A list of `count` bytes that are all `x`.
-fn xs(alloc: Global, count: usize) -> Result<Vec<u8>, AllocError> {
+fn xs(alloc: Global, count: usize) -> Result<Vec<u8>, AllocError>
+    ensures { IfOk result (λ bytes. vec_len bytes ≡ count) }
+{
     vec![in alloc; b'x'; count]
 }
-
-use std::alloc::{AllocError, Global};
 
 #[test]
 fn texts_end_at_255_bytes(rt: HostRuntime) -> Result<(), Fail> {
@@ -37,14 +41,24 @@ fn byte_strings_are_copied_and_grow(rt: HostRuntime) -> Result<(), Fail> {
     Ok(())
 }
 
+/// Puts a number, of which no one is longer than 40 bytes.
+fn put(n: i64, to: &mut Line)
+    requires { length to.old + 40 ≤ 4096 }
+    ensures { length to.new ≤ length to.old + 40 }
+{
+    let mut buffer = Buffer::new();
+    let _text = buffer.format(n);
+    put_number(n, to);
+}
+
 #[test]
 fn numbers_are_put_in_decimal(rt: HostRuntime) -> Result<(), Fail> {
     let mut line = Line::empty();
-    put_number(i64::MIN, &mut line);
+    put(i64::MIN, &mut line);
     line.add(b" ");
-    put_number(i64::MAX, &mut line);
+    put(i64::MAX, &mut line);
     line.add(b" ");
-    put_number(0, &mut line);
+    put(0, &mut line);
     line.add(b" ");
     put_u32(u32::MAX, &mut line);
     line.add(b" ");
@@ -76,10 +90,12 @@ fn answer() -> Answer {
 fn woken_holds_64_deliveries(rt: HostRuntime) {
     let mut woken = Woken::empty();
     for task in 1..65 {
-        woken.add(Delivery {
-            task,
-            answer: answer(),
-        });
+        if woken.deliveries().len() < 64 {
+            woken.add(Delivery {
+                task,
+                answer: answer(),
+            });
+        }
     }
     assert_eq!(rt; woken.deliveries().len(), 64);
     assert!(rt; woken.copy().is_same(&woken));
