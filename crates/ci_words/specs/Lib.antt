@@ -1,0 +1,5 @@
+pub mod Command
+pub mod Role
+pub mod Number
+pub mod Fault
+pub mod Order
