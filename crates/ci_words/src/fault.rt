@@ -76,21 +76,21 @@ impl Fault {
 }
 
 /// The words that say what a fault of this number is, which is from 1 to 10; no words for another number.
-pub fn fault_text(number: u8) -> &'static [u8]
+pub fn fault_text(number: u8) -> &'static str
     ensures { result.now ≡ text_of number }
 {
     match number {
-        1 => b"no command",
-        2 => b"unknown command",
-        3 => b"unknown option",
-        4 => b"value missing",
-        5 => b"not a number",
-        6 => b"out of range",
-        7 => b"repeated",
-        8 => b"no file",
-        9 => b"too many files",
-        10 => b"word too many",
-        _ => b"",
+        1 => "no command",
+        2 => "unknown command",
+        3 => "unknown option",
+        4 => "value missing",
+        5 => "not a number",
+        6 => "out of range",
+        7 => "repeated",
+        8 => "no file",
+        9 => "too many files",
+        10 => "word too many",
+        _ => "",
     }
 }
 

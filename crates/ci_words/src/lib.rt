@@ -12,3 +12,6 @@ pub use command::Command;
 pub use fault::{WordFault, fault_text};
 pub use order::{FileList, Order};
 pub use read::read_words;
+
+#[cfg(test)]
+mod tests;

@@ -1,5 +1,7 @@
 //! Words that are numbers.
 ghost use Rattle.std.specs.Prelude.{◌≡◌, ◌≤◌, min, length};
+ghost use Rattle.std.specs.List.{list_all};
+ghost use Rattle.std.specs.Char.{is_ascii_digit};
 ghost use Rattle.ci_words.specs.Number.{is_number, value_of, bounds_of, bounds_of_plain};
 
 use crate::command::{Command, OptionName};
@@ -18,7 +20,14 @@ const TOO_LARGE: u32 = 200_000_000;
 pub(crate) fn is_number(word: &[u8]) -> bool
     ensures { result ≡ is_number word.now }
 {
-    !word.is_empty() && word.iter().all(|byte| byte.is_ascii_digit())
+    !word.is_empty() && has_digits_alone(word)
+}
+
+/// Whether each byte of the word is a decimal digit.
+fn has_digits_alone(word: &[u8]) -> bool
+    ensures { result ≡ list_all is_ascii_digit word.now }
+{
+    word.iter().all(|byte| byte.is_ascii_digit())
 }
 
 /// The number that the digits spell, or 200,000,000 where it is larger.
