@@ -54,13 +54,13 @@ pub place_has : (command : Command) (words : List (List ℕ)) (role : Role) (end
 place_has command words role zero at placed = cc
 place_has command words role (suc end) at placed =
     by_test (same_role (role_at command words end) role) refl placed (place_has command words role end at) where
-  by_test : (answer : Bool) → same_role (role_at command words end) role ≡ answer → (if answer then Some end else place_before command words role end) ≡ Some at → (place_before command words role end ≡ Some at → (at < end) × (role_at command words at ≡ role)) → (at < suc end) × (role_at command words at ≡ role)
-  by_test true same here earlier =
-      let there : end ≡ at = cc in
-      (omega arith, subst (λ (k : ℕ). role_at command words k ≡ role) there (same_role-true _ _ same))
-  by_test false other before earlier =
-      let has = earlier before in
-      (omega arith, has.1)
+      by_test : (answer : Bool) → same_role (role_at command words end) role ≡ answer → (if answer then Some end else place_before command words role end) ≡ Some at → (place_before command words role end ≡ Some at → (at < end) × (role_at command words at ≡ role)) → (at < suc end) × (role_at command words at ≡ role)
+      by_test true same here earlier =
+          let there : end ≡ at = cc in
+          (omega arith, subst (λ (k : ℕ). role_at command words k ≡ role) there (same_role-true _ _ same))
+      by_test false other before earlier =
+          let has = earlier before in
+          (omega arith, has.1)
 
 -- a number of words without a fault is at most the largest of its bounds
 pub number_within : (command : Command) (words : List (List ℕ)) (at : ℕ) (bounds : Bounds) → IsFree command words → IsToBe command words at bounds → value_of (word_at words at) ≤ bounds.high
@@ -105,20 +105,20 @@ pub count_at_most : (command : Command) (words : List (List ℕ)) (role : Role) 
 count_at_most command words role most zero never = omega arith
 count_at_most command words role most (suc end) never =
     by_test (same_role (role_at command words end) role) refl (count_at_most command words role most end (λ at below. never at (omega arith))) (never end (omega arith)) where
-  by_test : (answer : Bool) → same_role (role_at command words end) role ≡ answer → count_before command words role end ≤ most → (role_at command words end ≡ role → count_before command words role end ≡ most → ⊥) → count_before command words role end + (if answer then 1 else 0) ≤ most
-  by_test true same earlier last =
-      let other : count_before command words role end ≡ most → ⊥ = last (same_role-true _ _ same) in
-      omega arith
-  by_test false other earlier last = omega arith
+      by_test : (answer : Bool) → same_role (role_at command words end) role ≡ answer → count_before command words role end ≤ most → (role_at command words end ≡ role → count_before command words role end ≡ most → ⊥) → count_before command words role end + (if answer then 1 else 0) ≤ most
+      by_test true same earlier last =
+          let other : count_before command words role end ≡ most → ⊥ = last (same_role-true _ _ same) in
+          omega arith
+      by_test false other earlier last = omega arith
 
 -- as many places as are counted
 length-places : (command : Command) (words : List (List ℕ)) (role : Role) (end : ℕ) → length (places_before command words role end) ≡ count_before command words role end
 length-places command words role zero = refl
 length-places command words role (suc end) =
     by_test (same_role (role_at command words end) role) (length-places command words role end) where
-  by_test : (answer : Bool) → length (places_before command words role end) ≡ count_before command words role end → length (places_before command words role end ++ (if answer then end ∷ [] else [])) ≡ count_before command words role end + (if answer then 1 else 0)
-  by_test true earlier = omega (arith, length-append (places_before command words role end) (end ∷ []))
-  by_test false earlier = omega (arith, length-append (places_before command words role end) [])
+      by_test : (answer : Bool) → length (places_before command words role end) ≡ count_before command words role end → length (places_before command words role end ++ (if answer then end ∷ [] else [])) ≡ count_before command words role end + (if answer then 1 else 0)
+      by_test true earlier = omega (arith, length-append (places_before command words role end) (end ∷ []))
+      by_test false earlier = omega (arith, length-append (places_before command words role end) [])
 
 -- a file has less than 64 files before it
 pub room_for_file : (command : Command) (words : List (List ℕ)) (at : ℕ) (files : List ℕ) (current : Role) → takes_files command ≡ true → IsFree command words → at < length words → current ≡ role_at command words at → files ≡ places_before command words roles.Plain at → true ≡ same_role current roles.Plain → length files < 64
@@ -126,6 +126,6 @@ room_for_file command words at files current takes free within here placed same 
     let role : role_at command words at ≡ roles.Plain = sym here ∙ same_role-true current roles.Plain (sym same) in
     let other : count_before command words roles.Plain at ≡ 64 → ⊥ = λ full. free at faults.TooManyFiles ((within, role), takes, full) in
     let few : count_before command words roles.Plain at ≤ 64 =
-        count_at_most command words roles.Plain 64 at (λ k below plain full. free k faults.TooManyFiles ((omega arith, plain), takes, full)) in
+    count_at_most command words roles.Plain 64 at (λ k below plain full. free k faults.TooManyFiles ((omega arith, plain), takes, full)) in
     let many : length files ≡ count_before command words roles.Plain at = ap length placed ∙ length-places command words roles.Plain at in
     omega arith

@@ -3,3 +3,4 @@ pub mod Role
 pub mod Number
 pub mod Fault
 pub mod Order
+pub mod Laws

@@ -36,7 +36,7 @@ abbrev pub limits_of : Command → List (List ℕ) → Limits
 limits_of command words = record {
   slice = number_at words (value_place command words names.Slice) 1000;
   budget = number_at words (value_place command words names.Budget) 10000000;
-  workers = number_at words (value_place command words names.Workers) 0
+  workers = number_at words (value_place command words names.Workers) 0;
 }
 
 -- what words without a fault ask for
@@ -49,7 +49,7 @@ order_of command words = record {
   number = size_of command words;
   limits = limits_of command words;
   workers_at = value_place command words names.Workers;
-  as_journal = is_some (place_before command words (roles.Known names.Journal) (length words))
+  as_journal = is_some (place_before command words (roles.Known names.Journal) (length words));
 }
 
 -- what words come to whose first one is this command

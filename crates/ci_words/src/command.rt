@@ -1,7 +1,14 @@
 //! The commands and their options.
 ghost use Rattle.std.specs.Prelude.{◌≡◌};
 ghost use Rattle.ci_words.specs.Command.{
-    command_spelling, all_commands, command_named, takes_files, option_spelling, takes_value, options_of, option_named,
+  command_spelling,
+  all_commands,
+  command_named,
+  takes_files,
+  option_spelling,
+  takes_value,
+  options_of,
+  option_named,
 };
 
 /// What is asked for.
@@ -53,14 +60,21 @@ fn all_commands() -> &'static [Command]
 pub(crate) fn command_named(word: &[u8]) -> Option<Command>
     ensures { result ≡ command_named word.now }
 {
-    all_commands().iter().copied().find(|command| command.spelling() == word)
+    all_commands()
+        .iter()
+        .copied()
+        .find(|command| command.spelling() == word)
 }
 
 /// The option of the command that is spelled so, exactly.
 pub(crate) fn option_named(command: Command, word: &[u8]) -> Option<OptionName>
     ensures { result ≡ option_named command word.now }
 {
-    command.options().iter().copied().find(|name| name.spelling() == word)
+    command
+        .options()
+        .iter()
+        .copied()
+        .find(|name| name.spelling() == word)
 }
 
 impl Command {

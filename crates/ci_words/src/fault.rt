@@ -208,7 +208,11 @@ fn fault_at_end(command: Command, words: &[Bytes]) -> Option<Fault>
 {
     let end = words.len();
     if count_before(command, words, Role::Plain, end) == 0 {
-        return Some(if command.takes_files() { Fault::NoFile } else { Fault::NumberMissing });
+        return Some(if command.takes_files() {
+            Fault::NoFile
+        } else {
+            Fault::NumberMissing
+        });
     }
     match command {
         Command::Replay => fault_without_journal(words),
@@ -221,7 +225,13 @@ fn fault_without_journal(words: &[Bytes]) -> Option<Fault>
     requires { 0 < count_before commands.Replay words.now roles.Plain (length words.now) }
     ensures { IsGivenAt commands.Replay words.now (length words.now) result }
 {
-    if count_before(Command::Replay, words, Role::Known(OptionName::From), words.len()) == 0 {
+    if count_before(
+        Command::Replay,
+        words,
+        Role::Known(OptionName::From),
+        words.len(),
+    ) == 0
+    {
         return Some(Fault::FromMissing);
     }
     None

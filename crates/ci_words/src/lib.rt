@@ -3,6 +3,7 @@
 
 mod command;
 mod fault;
+mod laws;
 mod number;
 mod order;
 mod read;
@@ -10,6 +11,7 @@ mod role;
 
 pub use command::Command;
 pub use fault::{WordFault, fault_text};
+pub use laws::words_have_one_answer;
 pub use order::{FileList, Order};
 pub use read::read_words;
 

@@ -112,7 +112,11 @@ fn files_of(command: Command, words: &[Bytes]) -> FileList
     requires free { IsFree command words.now }
     ensures { result ≡ files_of command words.now }
 {
-    if command.takes_files() { places_of_plain(command, words) } else { FileList::empty() }
+    if command.takes_files() {
+        places_of_plain(command, words)
+    } else {
+        FileList::empty()
+    }
 }
 
 /// The indexes of the plain words of a command that takes files.

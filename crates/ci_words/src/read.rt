@@ -1,5 +1,5 @@
 //! The reading of the words.
-ghost use Rattle.std.specs.Prelude.{◌<◌, ◌^◌, length};
+ghost use Rattle.std.specs.Prelude.{◌<◌, length};
 ghost use Rattle.ci_words.specs.Order.{Orders, OrdersAs};
 
 use crate::command::{Command, command_named};
@@ -9,22 +9,26 @@ use ci_base::Bytes;
 
 /// What the words after the program's name ask for, or the fault that is given of those that they have. Takes no memory.
 pub fn read_words(words: &[Bytes]) -> Result<Order, WordFault>
-    requires { length words.now < 2 ^ 32 }
     ensures { Orders words.now result }
 {
     let Some(first) = words.first() else {
-        return Err(WordFault { number: 1, index: 0 });
+        return Err(WordFault {
+            number: 1,
+            index: 0,
+        });
     };
     match command_named(first.bytes()) {
         Some(command) => read_later(command, words),
-        None => Err(WordFault { number: 2, index: 0 }),
+        None => Err(WordFault {
+            number: 2,
+            index: 0,
+        }),
     }
 }
 
 /// What the words ask for, whose first one is this command.
 fn read_later(command: Command, words: &[Bytes]) -> Result<Order, WordFault>
-    requires any { 0 < length words.now }
-    requires few { length words.now < 2 ^ 32 }
+    requires { 0 < length words.now }
     ensures { OrdersAs command words.now result }
 {
     match first_fault(command, words) {

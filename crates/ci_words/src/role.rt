@@ -1,7 +1,14 @@
 //! What each word is: the command, an option, the value of an option, or a plain word.
 ghost use Rattle.std.specs.Prelude.{◌≡◌, ◌<◌, ◌≤◌, ◌+◌, ◌^◌, length};
 ghost use Rattle.ci_words.specs.Role.{
-    word_at, role_of_option, role_by_spelling, role_after, role_at, same_role, count_before, place_before,
+  word_at,
+  role_of_option,
+  role_by_spelling,
+  role_after,
+  role_at,
+  same_role,
+  count_before,
+  place_before,
 };
 
 use crate::command::{Command, OptionName, option_named};

@@ -41,9 +41,17 @@ fn order_text(alloc: Global, order: &Order) -> Result<String, AllocError> {
     let script = place(alloc, order.script)?;
     let journal = place(alloc, order.journal)?;
     let workers_at = place(alloc, order.workers_at)?;
-    let mut text = format!(in alloc; "{:?} {} {} {}", order.command, limits.slice, limits.budget, limits.workers)?;
-    text.push_str(format!(in alloc; " script {script} from {journal} workers {workers_at}")?.as_str())?;
-    text.push_str(format!(in alloc; " number {} {} files", order.number, order.as_journal)?.as_str())?;
+    let mut text = format!(in alloc;
+        "{:?} {} {} {}",
+        order.command, limits.slice, limits.budget, limits.workers
+    )?;
+    text.push_str(format!(in alloc;
+        " script {script} from {journal} workers {workers_at}"
+    )?.as_str())?;
+    text.push_str(format!(in alloc;
+        " number {} {} files",
+        order.number, order.as_journal
+    )?.as_str())?;
     for at in order.files.indexes() {
         text.push_str(format!(in alloc; " {at}")?.as_str())?;
     }
@@ -113,14 +121,20 @@ const FAULTS: [(&str, &str); 94] = [
     ("make --workers x 5", "2: not a number"),
     ("run a --slice 0", "3: out of range"),
     ("run a --slice 1000001", "3: out of range"),
-    ("run a --slice 00000000000000000001000001", "3: out of range"),
+    (
+        "run a --slice 00000000000000000001000001",
+        "3: out of range",
+    ),
     ("run a --budget 199", "3: out of range"),
     ("run a --budget 100000001", "3: out of range"),
     ("replay a --budget 199 --from j", "3: out of range"),
     ("run a --workers 17", "3: out of range"),
     ("run a --workers 4294967296", "3: out of range"),
     ("run a --workers 18446744073709551616", "3: out of range"),
-    ("run a --workers 100000000000000000000000000001", "3: out of range"),
+    (
+        "run a --workers 100000000000000000000000000001",
+        "3: out of range",
+    ),
     ("make 0", "1: out of range"),
     ("make 901", "1: out of range"),
     ("make 4294967297", "1: out of range"),
@@ -160,22 +174,70 @@ const FAULTS: [(&str, &str); 94] = [
 
 /// Lines without a fault, and what they ask for.
 const ORDERS: [(&str, &str); 16] = [
-    ("run a", "Run 1000 10000000 0 script - from - workers - number 0 false files 1"),
-    ("run a b c", "Run 1000 10000000 0 script - from - workers - number 0 false files 1 2 3"),
-    ("run make - check", "Run 1000 10000000 0 script - from - workers - number 0 false files 1 2 3"),
-    ("run  a", "Run 1000 10000000 0 script - from - workers - number 0 false files 1 2"),
-    ("run --slice 1 a --budget 200 b --workers 0 --script s --journal c", "Run 1 200 0 script 10 from - workers 8 number 0 true files 3 6 12"),
-    ("run a --slice 1000000 --budget 100000000 --workers 16", "Run 1000000 100000000 16 script - from - workers 7 number 0 false files 1"),
-    ("run a --slice 00000000000000000000000000000007", "Run 7 10000000 0 script - from - workers - number 0 false files 1"),
-    ("run a --workers 000000000000000000000000000000000016", "Run 1000 10000000 16 script - from - workers 3 number 0 false files 1"),
-    ("run a --script --slice 5", "Run 1000 10000000 0 script 3 from - workers - number 0 false files 1 4"),
-    ("run a --script --script", "Run 1000 10000000 0 script 3 from - workers - number 0 false files 1"),
-    ("check a b", "Check 1000 10000000 0 script - from - workers - number 0 false files 1 2"),
-    ("list a", "List 1000 10000000 0 script - from - workers - number 0 false files 1"),
-    ("replay --from j a --script --from b --budget 0200", "Replay 1000 200 0 script 5 from 2 workers - number 0 false files 3 6"),
-    ("replay a --from --from", "Replay 1000 10000000 0 script - from 3 workers - number 0 false files 1"),
-    ("make 1", "Make 1000 10000000 0 script - from - workers - number 1 false files"),
-    ("make --workers 3 0900", "Make 1000 10000000 3 script - from - workers 2 number 900 false files"),
+    (
+        "run a",
+        "Run 1000 10000000 0 script - from - workers - number 0 false files 1",
+    ),
+    (
+        "run a b c",
+        "Run 1000 10000000 0 script - from - workers - number 0 false files 1 2 3",
+    ),
+    (
+        "run make - check",
+        "Run 1000 10000000 0 script - from - workers - number 0 false files 1 2 3",
+    ),
+    (
+        "run  a",
+        "Run 1000 10000000 0 script - from - workers - number 0 false files 1 2",
+    ),
+    (
+        "run --slice 1 a --budget 200 b --workers 0 --script s --journal c",
+        "Run 1 200 0 script 10 from - workers 8 number 0 true files 3 6 12",
+    ),
+    (
+        "run a --slice 1000000 --budget 100000000 --workers 16",
+        "Run 1000000 100000000 16 script - from - workers 7 number 0 false files 1",
+    ),
+    (
+        "run a --slice 00000000000000000000000000000007",
+        "Run 7 10000000 0 script - from - workers - number 0 false files 1",
+    ),
+    (
+        "run a --workers 000000000000000000000000000000000016",
+        "Run 1000 10000000 16 script - from - workers 3 number 0 false files 1",
+    ),
+    (
+        "run a --script --slice 5",
+        "Run 1000 10000000 0 script 3 from - workers - number 0 false files 1 4",
+    ),
+    (
+        "run a --script --script",
+        "Run 1000 10000000 0 script 3 from - workers - number 0 false files 1",
+    ),
+    (
+        "check a b",
+        "Check 1000 10000000 0 script - from - workers - number 0 false files 1 2",
+    ),
+    (
+        "list a",
+        "List 1000 10000000 0 script - from - workers - number 0 false files 1",
+    ),
+    (
+        "replay --from j a --script --from b --budget 0200",
+        "Replay 1000 200 0 script 5 from 2 workers - number 0 false files 3 6",
+    ),
+    (
+        "replay a --from --from",
+        "Replay 1000 10000000 0 script - from 3 workers - number 0 false files 1",
+    ),
+    (
+        "make 1",
+        "Make 1000 10000000 0 script - from - workers - number 1 false files",
+    ),
+    (
+        "make --workers 3 0900",
+        "Make 1000 10000000 3 script - from - workers 2 number 900 false files",
+    ),
 ];
 
 /// Each fault at each place where it can stand, and several faults at one index and at two.

@@ -13,7 +13,7 @@ pub loop-at-preserved : goal.loop-at-preserved
 loop-at-preserved c = record {
   role = role_step c.args.command c.args.words.now c.loop-at.at _ _ _ c.loop-at.invariant.role c.word_at.ensures c.role_after-role.ensures;
   placed = elim c.if-is_same.branch [
-      then-is_same w ↦ places_step c.args.command c.args.words.now roles.Plain c.loop-at.at c.loop-at.files c.if-is_same.files _ c.loop-at.invariant.role c.loop-at.invariant.placed w.if-is_same.ensures (w.files-is ∙ w.add.ensures)
+    | then-is_same w ↦ places_step c.args.command c.args.words.now roles.Plain c.loop-at.at c.loop-at.files c.if-is_same.files _ c.loop-at.invariant.role c.loop-at.invariant.placed w.if-is_same.ensures (w.files-is ∙ w.add.ensures)
     | else-is_same w ↦ places_kept c.args.command c.args.words.now roles.Plain c.loop-at.at c.loop-at.files c.if-is_same.files _ c.loop-at.invariant.role c.loop-at.invariant.placed w.if-is_same.ensures w.files-is
-  ]
+  ];
 }

@@ -6,5 +6,5 @@ use Rattle.ci_words.proofs.order.places_of_plain.Given as goal
 abbrev pub invariant-loop-at : goal.invariant-loop-at
 invariant-loop-at l = record {
   role : l.role ≡ role_at l.command l.words l.at;
-  placed : l.files ≡ places_before l.command l.words roles.Plain l.at
+  placed : l.files ≡ places_before l.command l.words roles.Plain l.at;
 }

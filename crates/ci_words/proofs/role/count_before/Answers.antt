@@ -7,8 +7,8 @@ pub loop-at-preserved : goal.loop-at-preserved
 loop-at-preserved c = record {
   role = role_step c.args.command c.args.words.now c.loop-at.at _ _ _ c.loop-at.invariant.role c.word_at.ensures c.role_after-current.ensures;
   counted = elim c.if-is_same.branch [
-      then-is_same w ↦ count_step c.args.command c.args.words.now c.args.role c.loop-at.at _ _ _ c.loop-at.invariant.role c.loop-at.invariant.counted w.if-is_same.ensures w.count-is
+    | then-is_same w ↦ count_step c.args.command c.args.words.now c.args.role c.loop-at.at _ _ _ c.loop-at.invariant.role c.loop-at.invariant.counted w.if-is_same.ensures w.count-is
     | else-is_same w ↦ count_kept c.args.command c.args.words.now c.args.role c.loop-at.at _ _ _ c.loop-at.invariant.role c.loop-at.invariant.counted w.if-is_same.ensures w.count-is
   ];
-  below = elim c.if-is_same.branch [ then-is_same w ↦ omega arith | else-is_same w ↦ omega arith ]
+  below = elim c.if-is_same.branch [ then-is_same w ↦ omega arith | else-is_same w ↦ omega arith ];
 }

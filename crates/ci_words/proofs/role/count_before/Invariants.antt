@@ -6,5 +6,5 @@ abbrev pub invariant-loop-at : goal.invariant-loop-at
 invariant-loop-at l = record {
   role : l.current ≡ role_at l.command l.words l.at;
   counted : l.count ≡ count_before l.command l.words l.role l.at;
-  below : l.count ≤ l.at
+  below : l.count ≤ l.at;
 }

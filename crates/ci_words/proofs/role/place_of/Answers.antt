@@ -6,7 +6,7 @@ pub loop-at-preserved : goal.loop-at-preserved
 loop-at-preserved c = record {
   role = role_step c.args.command c.args.words.now c.loop-at.at _ _ _ c.loop-at.invariant.role c.word_at.ensures c.role_after-current.ensures;
   placed = elim c.if-is_same.branch [
-      then-is_same w ↦ place_step c.args.command c.args.words.now c.args.role c.loop-at.at _ _ c.loop-at.invariant.role w.if-is_same.ensures w.place-is
+    | then-is_same w ↦ place_step c.args.command c.args.words.now c.args.role c.loop-at.at _ _ c.loop-at.invariant.role w.if-is_same.ensures w.place-is
     | else-is_same w ↦ place_kept c.args.command c.args.words.now c.args.role c.loop-at.at _ _ _ c.loop-at.invariant.role c.loop-at.invariant.placed w.if-is_same.ensures w.place-is
-  ]
+  ];
 }
