@@ -1,4 +1,4 @@
-use Rattle.std.proofs.Common.{◌≡◌, ℕ, zero, suc, ◌<◌, ◌≤◌, ◌+◌, ◌⊎◌, inl, inr, arith, refl, sym, ap, subst, Bool, true, false, Option, Some, None, Result, Ok, Err, List, [], ◌∷◌, length}
+use Rattle.std.proofs.Common.{◌≡◌, ℕ, zero, suc, ◌<◌, ◌≤◌, ◌+◌, ◌⊎◌, inl, inr, arith, refl, subst, Bool, true, false, Option, Some, None, Result, Ok, Err, List, [], ◌∷◌, length}
 use Rattle.std.proofs.lemmas.Bool.{cases_lt}
 use Rattle.ci_words.specs.declared.command.Command.{Command}
 use Rattle.ci_words.specs.declared.command.Command.TheVariants as commands
@@ -14,7 +14,7 @@ use Rattle.ci_words.specs.declared.order.Order.{Order}
 use Rattle.ci_words.specs.Command.{command_named, takes_files, takes_value}
 use Rattle.ci_words.specs.Role.{word_at, role_at, count_before}
 use Rattle.ci_words.specs.Number.{is_number, value_of, bounds_of, bounds_of_plain}
-use Rattle.ci_words.specs.Fault.{rank_of, number_of, HasFault, IsToBe, IsFreeAt, IsFree, IsGivenAt, IsFirst}
+use Rattle.ci_words.specs.Fault.{rank_of, number_of, HasFault, IsToBe, IsFreeAt, IsGivenAt, IsFirst}
 use Rattle.ci_words.specs.Order.{order_of, OrdersAs, OrdersOf, Orders}
 use Rattle.ci_words.proofs.Few.{fault_within}
 use Rattle.ci_words.proofs.Only.{OptionFault, NumberFault, PlaceFault, EndFault, option_only, unknown_only, command_free, value_free, number_only, place_only, end_only}

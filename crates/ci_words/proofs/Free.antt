@@ -1,4 +1,4 @@
-use Rattle.std.proofs.Common.{◌≡◌, ℕ, zero, suc, ◌<◌, ◌≤◌, ◌+◌, arith, rules, refl, sym, ap, subst, inl, inr, min, Bool, true, false, if◌then◌else◌, Option, Some, None, IsSome, List, [], ◌∷◌, length, ◌++◌, ◌∙◌, length-append}
+use Rattle.std.proofs.Common.{◌≡◌, ℕ, zero, suc, ◌<◌, ◌≤◌, ◌+◌, arith, rules, refl, sym, ap, subst, inr, min, Bool, true, false, if◌then◌else◌, Some, IsSome, List, [], ◌∷◌, length, ◌++◌, ◌∙◌, length-append}
 use Rattle.std.specs.List.{slice_get}
 use Rattle.ci_words.specs.declared.command.Command.{Command}
 use Rattle.ci_words.specs.declared.command.Command.TheVariants as commands
@@ -10,7 +10,7 @@ use Rattle.ci_words.specs.declared.number.Bounds.{Bounds}
 use Rattle.ci_words.specs.declared.fault.Fault.TheVariants as faults
 use Rattle.ci_words.specs.Command.{takes_files}
 use Rattle.ci_words.specs.Role.{word_at, role_at, role_number, same_role, count_before, place_before, places_before}
-use Rattle.ci_words.specs.Number.{is_number, value_of, bounds_of, bounds_for}
+use Rattle.ci_words.specs.Number.{is_number, value_of, bounds_of}
 use Rattle.ci_words.specs.Fault.{IsToBe, IsFree}
 use Rattle.ci_words.specs.Order.{value_place}
 use Rattle.std.proofs.lemmas.Bool.{eqb-true}

@@ -1,4 +1,4 @@
-use Rattle.std.proofs.Common.{◌≡◌, ℕ, zero, suc, ◌<◌, ◌+◌, arith, refl, subst, Bool, true, false, Option, Some, None, List, length}
+use Rattle.std.proofs.Common.{◌≡◌, ℕ, zero, suc, ◌<◌, ◌+◌, arith, refl, subst, true, false, Some, None, List, length}
 use Rattle.ci_words.specs.declared.command.Command.{Command}
 use Rattle.ci_words.specs.declared.command.Command.TheVariants as commands
 use Rattle.ci_words.specs.declared.command.OptionName.{OptionName}
@@ -11,7 +11,7 @@ use Rattle.ci_words.specs.declared.fault.Fault.TheVariants as faults
 use Rattle.ci_words.specs.Command.{takes_files, takes_value}
 use Rattle.ci_words.specs.Role.{word_at, role_at, count_before}
 use Rattle.ci_words.specs.Number.{is_number, value_of, bounds_of, bounds_of_plain, bounds_for, IsOutside}
-use Rattle.ci_words.specs.Fault.{HasRole, IsToBe, HasFault}
+use Rattle.ci_words.specs.Fault.{IsToBe, HasFault}
 
 -- what a fault says of a word that is an option of the command
 abbrev pub OptionFault : Command → List (List ℕ) → ℕ → OptionName → Fault → Type 0

@@ -1,4 +1,4 @@
-use Rattle.std.specs.Prelude.{◌≡◌, ◌≢◌, ◌<◌, ◌≤◌, ℕ, ◌+◌, ◌⊎◌, Bool, true, false, Option, Some, None, List, [], length, codes, ◌==◌, if◌then◌else◌}
+use Rattle.std.specs.Prelude.{◌≡◌, ◌<◌, ◌≤◌, ℕ, ◌+◌, true, false, Option, Some, None, List, [], length, codes, ◌==◌, if◌then◌else◌}
 use Rattle.ci_words.specs.declared.command.Command.{Command}
 use Rattle.ci_words.specs.declared.command.Command.TheVariants as commands
 use Rattle.ci_words.specs.declared.command.OptionName.{OptionName}

@@ -69,7 +69,7 @@ fn answer(rt: &impl Abort, alloc: Global, line: &str) -> Result<String, AllocErr
 }
 
 /// Lines, and the faults that are given of those that they have.
-const FAULTS: [(&str, &str); 94] = [
+static FAULTS: [(&str, &str); 94] = [
     ("", "0: no command"),
     ("RUN a", "0: unknown command"),
     ("a", "0: unknown command"),
@@ -173,7 +173,7 @@ const FAULTS: [(&str, &str); 94] = [
 ];
 
 /// Lines without a fault, and what they ask for.
-const ORDERS: [(&str, &str); 16] = [
+static ORDERS: [(&str, &str); 16] = [
     (
         "run a",
         "Run 1000 10000000 0 script - from - workers - number 0 false files 1",
@@ -243,7 +243,7 @@ const ORDERS: [(&str, &str); 16] = [
 /// Each fault at each place where it can stand, and several faults at one index and at two.
 #[test]
 fn the_first_fault_is_given(rt: HostRuntime) -> Result<(), Fail> {
-    for (line, want) in FAULTS {
+    for (line, want) in FAULTS.iter().copied() {
         let given = answer(&rt, rt.alloc(), line)?;
         assert_eq!(rt; given.as_str(), want, "{line}");
     }
@@ -253,7 +253,7 @@ fn the_first_fault_is_given(rt: HostRuntime) -> Result<(), Fail> {
 /// Options before, between and after files; least and largest numbers; values that look like options.
 #[test]
 fn orders_are_read(rt: HostRuntime) -> Result<(), Fail> {
-    for (line, want) in ORDERS {
+    for (line, want) in ORDERS.iter().copied() {
         let given = answer(&rt, rt.alloc(), line)?;
         assert_eq!(rt; given.as_str(), want, "{line}");
     }

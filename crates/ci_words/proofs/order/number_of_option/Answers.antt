@@ -1,4 +1,3 @@
-use Rattle.std.proofs.Common.{sym, ◌∙◌}
 use Rattle.ci_words.proofs.Free.{option_value}
 use Rattle.ci_words.proofs.order.number_of_option.Goals as goal
 
