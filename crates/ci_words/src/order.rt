@@ -43,7 +43,7 @@ impl FileList {
         }
     }
 
-    /// Adds the index at the end.
+    /// Adds the index at the end, for which there is room.
     pub fn add(&mut self, index: u32)
         requires { length self.old < 64 }
         ensures { self.new ≡ self.old ++ index ∷ [] }
@@ -63,6 +63,7 @@ impl FileList {
 /// What the words ask for. It names words by their indexes, counted from 0.
 #[derive(Debug, PartialEq, Eq, Drop)]
 pub struct Order {
+    /// The command that the first word spells.
     pub command: Command,
     /// The indexes of the files, in order.
     pub files: FileList,

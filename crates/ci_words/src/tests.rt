@@ -253,6 +253,7 @@ fn the_first_fault_is_given(rt: HostRuntime) -> Result<(), Fail> {
 /// Options before, between and after files; least and largest numbers; values that look like options.
 #[test]
 fn orders_are_read(rt: HostRuntime) -> Result<(), Fail> {
+    words_have_one_answer();
     for (line, want) in ORDERS.iter().copied() {
         let given = answer(&rt, rt.alloc(), line)?;
         assert_eq!(rt; given.as_str(), want, "{line}");
