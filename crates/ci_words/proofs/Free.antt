@@ -112,7 +112,7 @@ count_at_most command words role most (suc end) never =
       by_test false other earlier last = omega arith
 
 -- as many places as are counted
-length-places : (command : Command) (words : List (List ℕ)) (role : Role) (end : ℕ) → length (places_before command words role end) ≡ count_before command words role end
+pub length-places : (command : Command) (words : List (List ℕ)) (role : Role) (end : ℕ) → length (places_before command words role end) ≡ count_before command words role end
 length-places command words role zero = refl
 length-places command words role (suc end) =
     by_test (same_role (role_at command words end) role) (length-places command words role end) where

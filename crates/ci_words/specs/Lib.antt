@@ -4,3 +4,4 @@ pub mod Number
 pub mod Fault
 pub mod Order
 pub mod Laws
+pub mod Bounds

@@ -1,5 +1,6 @@
 //! The reading of the words.
-ghost use Rattle.std.specs.Prelude.{◌<◌, length};
+ghost use Rattle.std.specs.Prelude.{◌<◌, length, IfOk};
+ghost use Rattle.ci_words.specs.Bounds.{IsInBounds};
 ghost use Rattle.ci_words.specs.Order.{Orders, OrdersAs};
 
 use crate::command::{Command, command_named};
@@ -9,7 +10,8 @@ use ci_base::Bytes;
 
 /// What the words after the program's name ask for, or the fault that is given of those that they have. Takes no memory.
 pub fn read_words(words: &[Bytes]) -> Result<Order, WordFault>
-    ensures { Orders words.now result }
+    ensures answer { Orders words.now result }
+    ensures within { IfOk result (IsInBounds words.now) }
 {
     let Some(first) = words.first() else {
         return Err(WordFault {
@@ -29,7 +31,8 @@ pub fn read_words(words: &[Bytes]) -> Result<Order, WordFault>
 /// What the words ask for, whose first one is this command.
 fn read_later(command: Command, words: &[Bytes]) -> Result<Order, WordFault>
     requires { 0 < length words.now }
-    ensures { OrdersAs command words.now result }
+    ensures answer { OrdersAs command words.now result }
+    ensures within { IfOk result (IsInBounds words.now) }
 {
     match first_fault(command, words) {
         Some(found) => Err(WordFault {
