@@ -1,0 +1,5 @@
+pub mod Classes
+pub mod Faults
+pub mod Fronts
+pub mod Laws
+pub mod Lengths

@@ -1,0 +1,62 @@
+//! Signs and hashes.
+use crate::fault::LexFault;
+use crate::run::{Class, split_run};
+use crate::step::{Front, Step};
+use ci_tree::{Sign, TokenKind};
+
+/// One or more `#`.
+pub fn scan_hashes(rest: &[u8], at: u32) -> Result<Step<'_>, LexFault> {
+    let (hashes, behind) = split_run(rest, Class::Hash);
+    if hashes.len() > 255 {
+        return Err(LexFault::TextTooLong { at });
+    }
+    Ok(Step {
+        front: Front::Token(TokenKind::Hashes(hashes.len() as u32)),
+        rest: behind,
+    })
+}
+
+/// A sign other than `/`, or a byte that begins nothing.
+pub fn scan_sign(rest: &[u8], at: u32) -> Result<Step<'_>, LexFault> {
+    match sign_at(rest) {
+        Some((sign, behind)) => Ok(Step {
+            front: Front::Token(TokenKind::Sign(sign)),
+            rest: behind,
+        }),
+        None => Err(LexFault::StrayByte { at }),
+    }
+}
+
+/// The sign at the front, and what is left behind it.
+fn sign_at(rest: &[u8]) -> Option<(Sign, &[u8])> {
+    match rest {
+        [b'<', b'>', behind @ ..] => Some((Sign::Unequal, behind)),
+        [b'<', b'=', behind @ ..] => Some((Sign::AtMost, behind)),
+        [b'>', b'=', behind @ ..] => Some((Sign::AtLeast, behind)),
+        [first, behind @ ..] => match single(*first) {
+            Some(sign) => Some((sign, behind)),
+            None => None,
+        },
+        [] => None,
+    }
+}
+
+/// The sign of one byte, `/` left out.
+fn single(b: u8) -> Option<Sign> {
+    match b {
+        b'(' => Some(Sign::LeftParen),
+        b')' => Some(Sign::RightParen),
+        b'[' => Some(Sign::LeftBracket),
+        b']' => Some(Sign::RightBracket),
+        b',' => Some(Sign::Comma),
+        b';' => Some(Sign::Semicolon),
+        b':' => Some(Sign::Colon),
+        b'=' => Some(Sign::Equal),
+        b'<' => Some(Sign::Less),
+        b'>' => Some(Sign::Greater),
+        b'+' => Some(Sign::Plus),
+        b'-' => Some(Sign::Minus),
+        b'*' => Some(Sign::Star),
+        _ => None,
+    }
+}

@@ -1,0 +1,175 @@
+//! Names and keywords.
+use crate::fault::LexFault;
+use crate::run::{Class, split_run};
+use crate::step::{Front, Step};
+use arrayvec::ArrayVec;
+use ci_base::Bytes;
+use ci_tree::{Keyword, TokenKind};
+use std::alloc::Global;
+
+/// A name or a keyword.
+pub fn scan_word<'s>(alloc: Global, rest: &'s [u8], at: u32) -> Result<Step<'s>, LexFault> {
+    let (word, behind) = split_run(rest, Class::NameByte);
+    let what = word_token(alloc, word, at)?;
+    Ok(Step {
+        front: Front::Token(what),
+        rest: behind,
+    })
+}
+
+/// The token that a word makes.
+fn word_token(alloc: Global, word: &[u8], at: u32) -> Result<TokenKind, LexFault> {
+    if word.len() > 64 {
+        return Err(LexFault::NameTooLong { at });
+    }
+    match reserved(word) {
+        Some(token) => Ok(token),
+        None => Ok(TokenKind::Name(Bytes::copy(alloc, word)?)),
+    }
+}
+
+/// The token that a word of any letter case makes, where it is no name.
+fn reserved(word: &[u8]) -> Option<TokenKind> {
+    if word.len() > 9 {
+        return None;
+    }
+    let mut capitals: ArrayVec<u8, 9> = ArrayVec::new();
+    for b in word {
+        capitals.push(capital(*b));
+    }
+    look_up(capitals.as_slice())
+}
+
+fn capital(b: u8) -> u8 {
+    if b >= b'a' && b <= b'z' { b - 32 } else { b }
+}
+
+fn look_up(word: &[u8]) -> Option<TokenKind> {
+    match word.len() {
+        2 => look_up_2(word),
+        3 => look_up_3(word),
+        4 => look_up_4(word),
+        5 => look_up_5(word),
+        6 => look_up_6(word),
+        7 => look_up_7(word),
+        8 => look_up_8(word),
+        9 => look_up_9(word),
+        _ => None,
+    }
+}
+
+fn look_up_2(word: &[u8]) -> Option<TokenKind> {
+    if word == b"IF".as_slice() {
+        keyword(Keyword::If)
+    } else if word == b"DO".as_slice() {
+        keyword(Keyword::Do)
+    } else if word == b"TO".as_slice() {
+        keyword(Keyword::To)
+    } else if word == b"IS".as_slice() {
+        keyword(Keyword::Is)
+    } else if word == b"OR".as_slice() {
+        keyword(Keyword::Or)
+    } else {
+        None
+    }
+}
+
+fn keyword(word: Keyword) -> Option<TokenKind> {
+    Some(TokenKind::Keyword(word))
+}
+
+fn look_up_3(word: &[u8]) -> Option<TokenKind> {
+    if word == b"END".as_slice() {
+        keyword(Keyword::End)
+    } else if word == b"FOR".as_slice() {
+        keyword(Keyword::For)
+    } else if word == b"INT".as_slice() {
+        keyword(Keyword::Int)
+    } else if word == b"AND".as_slice() {
+        keyword(Keyword::And)
+    } else if word == b"NOT".as_slice() {
+        keyword(Keyword::Not)
+    } else if word == b"MOD".as_slice() {
+        keyword(Keyword::Mod)
+    } else {
+        None
+    }
+}
+
+fn look_up_4(word: &[u8]) -> Option<TokenKind> {
+    if word == b"THEN".as_slice() {
+        keyword(Keyword::Then)
+    } else if word == b"ELSE".as_slice() {
+        keyword(Keyword::Else)
+    } else if word == b"CASE".as_slice() {
+        keyword(Keyword::Case)
+    } else if word == b"REAL".as_slice() {
+        keyword(Keyword::Real)
+    } else if word == b"TRUE".as_slice() {
+        Some(TokenKind::Number(1))
+    } else {
+        None
+    }
+}
+
+fn look_up_5(word: &[u8]) -> Option<TokenKind> {
+    if word == b"WHILE".as_slice() {
+        keyword(Keyword::While)
+    } else if word == b"BITOR".as_slice() {
+        keyword(Keyword::BitOr)
+    } else if word == b"FALSE".as_slice() {
+        Some(TokenKind::Number(0))
+    } else {
+        None
+    }
+}
+
+fn look_up_6(word: &[u8]) -> Option<TokenKind> {
+    if word == b"SELECT".as_slice() {
+        keyword(Keyword::Select)
+    } else if word == b"RETURN".as_slice() {
+        keyword(Keyword::Return)
+    } else if word == b"PUBLIC".as_slice() {
+        keyword(Keyword::Public)
+    } else if word == b"GLOBAL".as_slice() {
+        keyword(Keyword::Global)
+    } else if word == b"MODULE".as_slice() {
+        keyword(Keyword::Module)
+    } else if word == b"STRING".as_slice() {
+        keyword(Keyword::String)
+    } else if word == b"OBJECT".as_slice() {
+        keyword(Keyword::Object)
+    } else if word == b"BITAND".as_slice() {
+        keyword(Keyword::BitAnd)
+    } else if word == b"BITXOR".as_slice() {
+        keyword(Keyword::BitXor)
+    } else {
+        None
+    }
+}
+
+fn look_up_7(word: &[u8]) -> Option<TokenKind> {
+    if word == b"PRIVATE".as_slice() {
+        keyword(Keyword::Private)
+    } else if word == b"QUALITY".as_slice() {
+        keyword(Keyword::Quality)
+    } else {
+        None
+    }
+}
+
+fn look_up_8(word: &[u8]) -> Option<TokenKind> {
+    if word == b"FUNCTION".as_slice() {
+        keyword(Keyword::Function)
+    } else {
+        None
+    }
+}
+
+fn look_up_9(word: &[u8]) -> Option<TokenKind> {
+    if word == b"TIMESTAMP".as_slice() {
+        keyword(Keyword::Timestamp)
+    } else {
+        None
+    }
+}
