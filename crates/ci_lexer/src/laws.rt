@@ -8,5 +8,4 @@ pub fn one_reading()
     ensures one_list { HasOneList }
     ensures one_fault { HasOneFault }
     ensures not_both { NeverBoth }
-{
-}
+{}

@@ -47,7 +47,11 @@ fn value_of(digits: &[u8], base: u32, limit: u32) -> Option<u32> {
             value = value * base as u64 + digit_value(*digit) as u64;
         }
     }
-    if value <= limit as u64 { Some(value as u32) } else { None }
+    if value <= limit as u64 {
+        Some(value as u32)
+    } else {
+        None
+    }
 }
 
 /// The value of a digit.

@@ -74,14 +74,13 @@ fn item_at(left: &[u8]) -> Item<'_> {
 /// The escape behind a caret.
 fn escape_at(behind: &[u8]) -> Item<'_> {
     match behind {
-        [b'0', b'x', high, low, rest @ ..]
-            if high.is_ascii_hexdigit() && low.is_ascii_hexdigit() =>
-        {
-            Item::Byte {
-                value: 16 * digit_value(*high) + digit_value(*low),
-                rest,
+        [b'0', b'x', high, low, rest @ ..] if high.is_ascii_hexdigit() && low.is_ascii_hexdigit() =>
+            {
+                Item::Byte {
+                    value: 16 * digit_value(*high) + digit_value(*low),
+                    rest,
+                }
             }
-        }
         [letter, rest @ ..] => match short_escape(*letter) {
             Some(value) => Item::Byte { value, rest },
             None => Item::BadEscape,
