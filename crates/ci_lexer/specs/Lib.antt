@@ -2,4 +2,5 @@ pub mod Classes
 pub mod Faults
 pub mod Fronts
 pub mod Laws
+pub mod Leads
 pub mod Lengths

@@ -4,6 +4,7 @@
 mod comment;
 mod fault;
 mod laws;
+mod lead;
 mod lexing;
 mod number;
 mod run;

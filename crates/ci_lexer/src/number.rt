@@ -1,11 +1,21 @@
 //! Numbers.
+ghost use Rattle.std.specs.Prelude.{◌≡◌, ◌+◌, ◌<◌, ◌≤◌, ◌≢◌, IfOk, IfErr, length, slice_index};
+ghost use Rattle.ci_lexer.specs.Faults.{FaultAt};
+ghost use Rattle.ci_lexer.specs.Fronts.{FrontAt};
+ghost use Rattle.ci_lexer.specs.Leads.{Leads};
 use crate::fault::LexFault;
+use crate::lead::{Lead, is_hex_digit};
 use crate::run::{Class, split_run};
 use crate::step::{Front, Step};
 use ci_tree::TokenKind;
 
 /// A number, behind which no letter and no `_` may stand.
-pub fn scan_number(rest: &[u8], at: u32) -> Result<Step<'_>, LexFault> {
+pub fn scan_number(rest: &[u8], at: u32) -> Result<Step<'_>, LexFault>
+    requires lead { Leads Lead.Digit rest.now }
+    requires short { at + length rest.now ≤ 262144 }
+    ensures ok { IfOk result (λ step. FrontAt step.front rest.now step.rest.now) }
+    ensures err { IfErr result (λ fault. fault ≢ LexFault.Memory → FaultAt (at + length rest.now) rest.now fault) }
+{
     match rest {
         [b'0', b'x' | b'X', digit, ..] if digit.is_ascii_hexdigit() => scan_hexadecimal(rest, at),
         _ => scan_decimal(rest, at),

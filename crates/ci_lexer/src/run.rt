@@ -4,6 +4,8 @@ ghost use Rattle.std.specs.List.{list_all};
 ghost use Rattle.ci_base.specs.Letters.{begins};
 ghost use Rattle.ci_lexer.specs.Classes.{passes};
 
+use crate::lead::{is_digit, is_hex_digit, is_letter, is_white};
+
 /// A class of bytes.
 #[derive(Clone, Copy, Debug, PartialEq, Eq)]
 pub enum Class {
@@ -23,14 +25,15 @@ pub enum Class {
 
 /// Whether the byte is of the class.
 #[inline(always)]
+#[tactic(auto, unfolding(ci_base::specs::Letters::is_name_byte, ci_base::specs::Letters::is_line_end, ci_tree::specs::Comments::is_inline, ci_tree::specs::Shapes::is_hash))]
 fn is_of(b: u8, class: Class) -> bool
     ensures { result ≡ passes class b }
 {
     match class {
-        Class::White => matches!(b, b'\t'..=b'\r' | b' '),
-        Class::NameByte => matches!(b, b'0'..=b'9' | b'A'..=b'Z' | b'_' | b'a'..=b'z'),
-        Class::Digit => matches!(b, b'0'..=b'9'),
-        Class::HexDigit => matches!(b, b'0'..=b'9' | b'A'..=b'F' | b'a'..=b'f'),
+        Class::White => is_white(b),
+        Class::NameByte => is_letter(b) || is_digit(b),
+        Class::Digit => is_digit(b),
+        Class::HexDigit => is_hex_digit(b),
         Class::Hash => b == b'#',
         Class::Inline => b != b'\n' && b != b'\r',
     }

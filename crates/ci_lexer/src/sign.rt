@@ -1,11 +1,21 @@
 //! Signs and hashes.
+ghost use Rattle.std.specs.Prelude.{◌≡◌, ◌+◌, ◌<◌, ◌≤◌, ◌≢◌, IfOk, IfErr, length, slice_index};
+ghost use Rattle.ci_lexer.specs.Faults.{FaultAt};
+ghost use Rattle.ci_lexer.specs.Fronts.{FrontAt};
+ghost use Rattle.ci_lexer.specs.Leads.{Leads};
 use crate::fault::LexFault;
+use crate::lead::Lead;
 use crate::run::{Class, split_run};
 use crate::step::{Front, Step};
 use ci_tree::{Sign, TokenKind};
 
 /// One or more `#`.
-pub fn scan_hashes(rest: &[u8], at: u32) -> Result<Step<'_>, LexFault> {
+pub fn scan_hashes(rest: &[u8], at: u32) -> Result<Step<'_>, LexFault>
+    requires lead { Leads Lead.Hash rest.now }
+    requires short { at + length rest.now ≤ 262144 }
+    ensures ok { IfOk result (λ step. FrontAt step.front rest.now step.rest.now) }
+    ensures err { IfErr result (λ fault. fault ≢ LexFault.Memory → FaultAt (at + length rest.now) rest.now fault) }
+{
     let (hashes, behind) = split_run(rest, Class::Hash);
     if hashes.len() > 255 {
         return Err(LexFault::TextTooLong { at });
@@ -17,7 +27,12 @@ pub fn scan_hashes(rest: &[u8], at: u32) -> Result<Step<'_>, LexFault> {
 }
 
 /// A sign other than `/`, or a byte that begins nothing.
-pub fn scan_sign(rest: &[u8], at: u32) -> Result<Step<'_>, LexFault> {
+pub fn scan_sign(rest: &[u8], at: u32) -> Result<Step<'_>, LexFault>
+    requires lead { Leads Lead.Other rest.now }
+    requires short { at + length rest.now ≤ 262144 }
+    ensures ok { IfOk result (λ step. FrontAt step.front rest.now step.rest.now) }
+    ensures err { IfErr result (λ fault. fault ≢ LexFault.Memory → FaultAt (at + length rest.now) rest.now fault) }
+{
     match sign_at(rest) {
         Some((sign, behind)) => Ok(Step {
             front: Front::Token(TokenKind::Sign(sign)),

@@ -2,9 +2,11 @@
 ghost use Rattle.std.specs.Prelude.{◌≡◌, ◌+◌, ◌<◌, ◌≤◌, ◌≢◌, ◌^◌, IfOk, IfErr, length};
 ghost use Rattle.ci_lexer.specs.Faults.{FaultAt};
 ghost use Rattle.ci_lexer.specs.Fronts.{FrontAt};
+ghost use Rattle.ci_lexer.specs.Leads.{Leads};
 
-use crate::comment::{scan_line_comment, scan_slash};
+use crate::comment::{scan_mark, scan_slash};
 use crate::fault::LexFault;
+use crate::lead::{Lead, lead_of};
 use crate::number::scan_number;
 use crate::run::{Class, split_run};
 use crate::sign::{scan_hashes, scan_sign};
@@ -35,19 +37,23 @@ pub fn next_step<'s>(alloc: Global, rest: &'s [u8], at: u32) -> Result<Step<'s>,
     ensures ok { IfOk result (λ step. FrontAt step.front rest.now step.rest.now) }
     ensures err { IfErr result (λ fault. fault ≢ LexFault.Memory → FaultAt (at + length rest.now) rest.now fault) }
 {
-    match rest[0] {
-        b'a'..=b'z' | b'A'..=b'Z' | b'_' => scan_word(alloc, rest, at),
-        b'0'..=b'9' => scan_number(rest, at),
-        b'\t'..=b'\r' | b' ' => Ok(scan_white(rest)),
-        b'"' => scan_text(alloc, rest, at),
-        b'#' => scan_hashes(rest, at),
-        b'!' => Ok(scan_line_comment(rest, 1)),
-        b'/' => scan_slash(rest, at),
-        _ => scan_sign(rest, at),
+    match lead_of(rest[0]) {
+        Lead::Letter => scan_word(alloc, rest, at),
+        Lead::Digit => scan_number(rest, at),
+        Lead::White => Ok(scan_white(rest)),
+        Lead::Quote => scan_text(alloc, rest, at),
+        Lead::Hash => scan_hashes(rest, at),
+        Lead::Mark => Ok(scan_mark(rest)),
+        Lead::Slash => scan_slash(rest, at),
+        Lead::Other => scan_sign(rest, at),
     }
 }
 
-fn scan_white(rest: &[u8]) -> Step<'_> {
+/// White space, as long as possible.
+fn scan_white(rest: &[u8]) -> Step<'_>
+    requires { Leads Lead.White rest.now }
+    ensures { FrontAt result.front rest.now result.rest.now }
+{
     let (_, behind) = split_run(rest, Class::White);
     Step {
         front: Front::Blank,

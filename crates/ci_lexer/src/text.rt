@@ -1,5 +1,10 @@
 //! Texts.
+ghost use Rattle.std.specs.Prelude.{◌≡◌, ◌+◌, ◌<◌, ◌≤◌, ◌≢◌, IfOk, IfErr, length, slice_index};
+ghost use Rattle.ci_lexer.specs.Faults.{FaultAt};
+ghost use Rattle.ci_lexer.specs.Fronts.{FrontAt};
+ghost use Rattle.ci_lexer.specs.Leads.{Leads};
 use crate::fault::LexFault;
+use crate::lead::{Lead, is_hex_digit};
 use crate::number::digit_value;
 use crate::step::{Front, Step};
 use arrayvec::ArrayVec;
@@ -29,7 +34,12 @@ enum TextEnd<'s> {
 }
 
 /// A text, from its opening quote on.
-pub fn scan_text<'s>(alloc: Global, rest: &'s [u8], at: u32) -> Result<Step<'s>, LexFault> {
+pub fn scan_text<'s>(alloc: Global, rest: &'s [u8], at: u32) -> Result<Step<'s>, LexFault>
+    requires lead { Leads Lead.Quote rest.now }
+    requires short { at + length rest.now ≤ 262144 }
+    ensures ok { IfOk result (λ step. FrontAt step.front rest.now step.rest.now) }
+    ensures err { IfErr result (λ fault. fault ≢ LexFault.Memory → FaultAt (at + length rest.now) rest.now fault) }
+{
     let mut value = ArrayVec::new();
     match scan_items(&rest[1..], &mut value) {
         TextEnd::Closed { rest } => Ok(Step {

@@ -1,5 +1,11 @@
 //! Names and keywords.
+ghost use Rattle.std.specs.Prelude.{◌≡◌, ◌+◌, ◌<◌, ◌≤◌, ◌≢◌, IfOk, IfErr, length, slice_index};
+ghost use Rattle.ci_lexer.specs.Faults.{FaultAt};
+ghost use Rattle.ci_lexer.specs.Fronts.{FrontAt};
+ghost use Rattle.ci_lexer.specs.Leads.{Leads};
+ghost use Rattle.std.specs.List.{list_all};
 use crate::fault::LexFault;
+use crate::lead::Lead;
 use crate::run::{Class, split_run};
 use crate::step::{Front, Step};
 use arrayvec::ArrayVec;
@@ -8,7 +14,12 @@ use ci_tree::{Keyword, TokenKind};
 use std::alloc::Global;
 
 /// A name or a keyword.
-pub fn scan_word<'s>(alloc: Global, rest: &'s [u8], at: u32) -> Result<Step<'s>, LexFault> {
+pub fn scan_word<'s>(alloc: Global, rest: &'s [u8], at: u32) -> Result<Step<'s>, LexFault>
+    requires lead { Leads Lead.Letter rest.now }
+    requires short { at + length rest.now ≤ 262144 }
+    ensures ok { IfOk result (λ step. FrontAt step.front rest.now step.rest.now) }
+    ensures err { IfErr result (λ fault. fault ≢ LexFault.Memory → FaultAt (at + length rest.now) rest.now fault) }
+{
     let (word, behind) = split_run(rest, Class::NameByte);
     let what = word_token(alloc, word, at)?;
     Ok(Step {
