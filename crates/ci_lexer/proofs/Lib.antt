@@ -1,0 +1,4 @@
+pub mod Items
+pub mod Leading
+pub mod Runs
+pub mod Wholes
