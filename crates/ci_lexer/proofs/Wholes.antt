@@ -18,6 +18,7 @@ use Rattle.ci_tree.specs.Shapes.Shape.{name, number, text, hashes, sign, blank, 
 use Rattle.ci_tree.specs.Signs.{sign_bytes}
 use Rattle.ci_lexer.specs.declared.lead.Lead.{Lead}
 use Rattle.ci_lexer.specs.declared.lead.Lead.TheVariants.{Letter, Digit, White, Quote, Hash, Mark, Slash, Other}
+use Rattle.ci_lexer.specs.Fronts.{hex_start}
 use Rattle.ci_lexer.specs.Leads.{lead}
 use Rattle.ci_lexer.proofs.Items.{one_cut, no_item_quote}
 use Rattle.ci_lexer.proofs.Leading.{Follows, follows_lead, lead-letter, lead-digit, lead-white, lead-hash, lead-quote, lead-mark, lead-slash, lead-zero, hex_first}
@@ -122,12 +123,6 @@ text_whole items value rest are = record {
       let cut = one_cut items value (34 ∷ more) found.0 found.1 (34 ∷ []) are found.2 (sym (append_assoc items (34 ∷ []) more) ∙ found.3) (no_item_quote more) (no_item_quote []) in
       ap (λ l. drop 1 l) cut.1;
 }
-
--- 0, x and a hexadecimal digit stand at the front
-abbrev pub hex_start : List ℕ → Bool
-hex_start [] = false
-hex_start (z ∷ []) = false
-hex_start (z ∷ x ∷ s) = z == 48 && (x == 120 || x == 88) && begins is_hex_digit s
 
 pub hex_start-hexadecimal : (s more : List ℕ) → is_hexadecimal s ≡ true → hex_start (s ++ more) ≡ true
 hex_start-hexadecimal [] more h = absurd (true≢false (sym h))

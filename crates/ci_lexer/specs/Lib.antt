@@ -1,4 +1,5 @@
 pub mod Classes
+pub mod Escapes
 pub mod Faults
 pub mod Fronts
 pub mod Laws

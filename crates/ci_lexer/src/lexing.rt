@@ -1,7 +1,8 @@
 //! Lexing: one pass over the bytes of a source.
-ghost use Rattle.std.specs.Prelude.{◌≡◌, ◌≤◌, ◌≢◌, IfOk, IfErr, length};
+ghost use Rattle.std.specs.Prelude.{◌≡◌, ◌++◌, ◌≤◌, ◌≢◌, IfOk, IfErr, OnOk, length};
 ghost use Rattle.ci_tree.specs.Tokens.{tokens, after_mark};
 ghost use Rattle.ci_lexer.specs.Faults.{lex_fault};
+ghost use Rattle.ci_lexer.specs.Fronts.{front_tokens};
 
 use crate::fault::LexFault;
 use crate::step::{Front, next_step};
@@ -21,14 +22,24 @@ pub fn lex(alloc: Global, source: &[u8]) -> Result<TokenList, LexFault>
     while !rest.is_empty() {
         let at = (source.len() - rest.len()) as u32;
         let step = next_step(alloc, rest, at)?;
-        if let Front::Token(what) = step.front {
-            let Ok(()) = kept.push(Token { what, place: at }) else {
-                return Err(LexFault::Memory);
-            };
-        }
+        keep(&mut kept, step.front, at)?;
         rest = step.rest;
     }
     Ok(TokenList::of(kept))
+}
+
+/// Adds the token that begins at the offset, if it is one.
+fn keep(kept: &mut Vec<Token>, front: Front, at: u32) -> Result<(), LexFault>
+    ensures ok { OnOk result (kept.new.items ≡ kept.old.items ++ front_tokens front at) }
+    ensures err { IfErr result (λ fault. fault ≡ LexFault.Memory) }
+{
+    match front {
+        Front::Blank => Ok(()),
+        Front::Token(what) => match kept.push(Token { what, place: at }) {
+            Ok(()) => Ok(()),
+            Err(_) => Err(LexFault::Memory),
+        },
+    }
 }
 
 /// What is left of a source behind the mark EF BB BF, which may stand at its start.

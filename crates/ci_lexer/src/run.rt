@@ -47,7 +47,10 @@ pub fn split_run(bytes: &[u8], class: Class) -> (&[u8], &[u8])
     ensures longest { begins (passes class) result.1.now ≡ false }
 {
     let mut n = 0;
-    while n < bytes.len() && is_of(bytes[n], class) {
+    while n < bytes.len() {
+        if !is_of(bytes[n], class) {
+            return bytes.split_at(n);
+        }
         n += 1;
     }
     bytes.split_at(n)

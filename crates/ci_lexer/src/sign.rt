@@ -1,8 +1,13 @@
 //! Signs and hashes.
-ghost use Rattle.std.specs.Prelude.{◌≡◌, ◌+◌, ◌<◌, ◌≤◌, ◌≢◌, IfOk, IfErr, length, slice_index};
+ghost use Rattle.std.specs.Prelude.{◌≡◌, ◌==◌, ◌++◌, ◌+◌, ◌<◌, ◌≤◌, ◌≢◌, IfOk, IfErr, IfSome, IfNone, List, ℕ, ◌∷◌, length};
 ghost use Rattle.ci_lexer.specs.Faults.{FaultAt};
 ghost use Rattle.ci_lexer.specs.Fronts.{FrontAt};
 ghost use Rattle.ci_lexer.specs.Leads.{Leads};
+ghost use Rattle.ci_base.specs.Letters.{begins};
+ghost use Rattle.ci_tree.specs.declared.token.Sign.{Sign};
+ghost use Rattle.ci_tree.specs.Signs.{sign_bytes};
+ghost use Rattle.ci_lexer.specs.Fronts.{IsSignAt, single_sign};
+
 use crate::fault::LexFault;
 use crate::lead::Lead;
 use crate::run::{Class, split_run};
@@ -43,21 +48,38 @@ pub fn scan_sign(rest: &[u8], at: u32) -> Result<Step<'_>, LexFault>
 }
 
 /// The sign at the front, and what is left behind it.
-fn sign_at(rest: &[u8]) -> Option<(Sign, &[u8])> {
-    match rest {
-        [b'<', b'>', behind @ ..] => Some((Sign::Unequal, behind)),
-        [b'<', b'=', behind @ ..] => Some((Sign::AtMost, behind)),
-        [b'>', b'=', behind @ ..] => Some((Sign::AtLeast, behind)),
-        [first, behind @ ..] => match single(*first) {
+fn sign_at(rest: &[u8]) -> Option<(Sign, &[u8])>
+    requires { Leads Lead.Other rest.now }
+    ensures some { IfSome result (λ found. IsSignAt found.0 rest.now found.1.now) }
+    ensures none { IfNone result ((other : Sign) (more : List ℕ) → rest.now ≡ sign_bytes other ++ more → ⊥) }
+{
+    let behind = &rest[1..];
+    if begins_with(rest, b'<') && begins_with(behind, b'>') {
+        Some((Sign::Unequal, &behind[1..]))
+    } else if begins_with(rest, b'<') && begins_with(behind, b'=') {
+        Some((Sign::AtMost, &behind[1..]))
+    } else if begins_with(rest, b'>') && begins_with(behind, b'=') {
+        Some((Sign::AtLeast, &behind[1..]))
+    } else {
+        match single(rest[0]) {
             Some(sign) => Some((sign, behind)),
             None => None,
-        },
-        [] => None,
+        }
     }
 }
 
+/// Whether the byte stands at the front.
+fn begins_with(bytes: &[u8], b: u8) -> bool
+    ensures { result ≡ begins (λ c. c == b) bytes.now }
+{
+    bytes.len() > 0 && bytes[0] == b
+}
+
 /// The sign of one byte, `/` left out.
-fn single(b: u8) -> Option<Sign> {
+#[tactic(auto, unfolding(crate::specs::Fronts::single_sign))]
+fn single(b: u8) -> Option<Sign>
+    ensures { result ≡ single_sign b }
+{
     match b {
         b'(' => Some(Sign::LeftParen),
         b')' => Some(Sign::RightParen),
