@@ -88,6 +88,13 @@ follows_number b s h =
     (λ hexadecimal. subst (λ l. Follows l b s) (sym (ap lead (hex_first b s hexadecimal) ∙ lead-zero)) (inr hexadecimal))
     (or_cases (is_decimal (b ∷ s)) (is_hexadecimal (b ∷ s)) h)
 
+pub number_lead : (b : ℕ) (s : List ℕ) → is_number (b ∷ s) ≡ true → lead b ≡ Digit
+number_lead b s h =
+    ⊎_elim
+    (λ decimal. lead-digit b (and_parts (is_digit b) (is_digit b && list_all is_digit s) decimal).0)
+    (λ hexadecimal. ap lead (hex_first b s hexadecimal) ∙ lead-zero)
+    (or_cases (is_decimal (b ∷ s)) (is_hexadecimal (b ∷ s)) h)
+
 -- at a first byte that is known
 pub follows_at : (n : ℕ) (tail : List ℕ) (kind : Lead) → lead n ≡ kind → Follows kind n tail → (b : ℕ) (s : List ℕ) → n ∷ tail ≡ b ∷ s → Follows (lead b) b s
 follows_at n tail kind is holds b s e =

@@ -1,4 +1,6 @@
+pub mod Backs
 pub mod Items
 pub mod Leading
 pub mod Runs
+pub mod Steps
 pub mod Wholes

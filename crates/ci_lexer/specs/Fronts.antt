@@ -3,7 +3,7 @@ use Rattle.std.specs.Prelude.{◌≡◌, List, ℕ, Bool, [], ◌∷◌, ◌++�
 use Rattle.ci_base.specs.Letters.{begins, is_hex_digit}
 use Rattle.ci_base.specs.Texts.{IsItem, AreItems, BeginsItem}
 use Rattle.ci_tree.specs.declared.token.Sign.{Sign}
-use Rattle.ci_tree.specs.declared.token.Sign.TheVariants.{LeftParen, RightParen, LeftBracket, RightBracket, Comma, Semicolon, Colon, Equal, Less, Greater, Plus, Minus, Star}
+use Rattle.ci_tree.specs.declared.token.Sign.TheVariants.{LeftParen, RightParen, LeftBracket, RightBracket, Comma, Semicolon, Colon, Equal, Unequal, Less, Greater, AtMost, AtLeast, Plus, Minus, Star}
 use Rattle.ci_tree.specs.Signs.{sign_bytes}
 use Rattle.ci_lexer.specs.declared.text.Item.{Item}
 use Rattle.ci_lexer.specs.declared.text.Item.TheVariants as items
@@ -53,6 +53,19 @@ single_sign b =
     else (if b == 45 then Some Minus
     else (if b == 42 then Some Star
     else None))))))))))))
+
+-- the sign of two bytes
+unfoldable pub double_sign : ℕ → ℕ → Option Sign
+double_sign b c =
+    if b == 60 && c == 62 then Some Unequal
+    else (if b == 60 && c == 61 then Some AtMost
+    else (if b == 62 && c == 61 then Some AtLeast
+    else None))
+
+-- the sign of a byte and the first byte behind it
+abbrev pub double_at : ℕ → List ℕ → Option Sign
+double_at b [] = None
+double_at b (c ∷ s) = double_sign b c
 
 -- the sign stands before the rest, and no longer one does
 abbrev pub IsSignAt : Sign → List ℕ → List ℕ → Type 0

@@ -1,7 +1,5 @@
 //! Why a source is refused.
 
-use ci_base::OutOfMemory;
-
 /// Why a source has no tokens, with the place of what is refused: the offset of its first byte.
 #[derive(Clone, Copy, Debug, PartialEq, Eq)]
 pub enum LexFault {
@@ -21,15 +19,4 @@ pub enum LexFault {
     NameTooLong { at: u32 },
     /// Want of memory; it tells nothing of the source.
     Memory,
-}
-
-impl From<OutOfMemory> for LexFault {
-    ghost use Rattle.std.specs.Prelude.{◌≡◌};
-    ghost use Rattle.ci_lexer.specs.declared.fault.LexFault.TheVariants.{Memory};
-
-    ghost from_gives = { λ _ fault. fault ≡ Memory };
-
-    fn from(_: OutOfMemory) -> LexFault {
-        LexFault::Memory
-    }
 }

@@ -1,12 +1,11 @@
 //! Signs and hashes.
-ghost use Rattle.std.specs.Prelude.{◌≡◌, ◌==◌, ◌++◌, ◌+◌, ◌<◌, ◌≤◌, ◌≢◌, IfOk, IfErr, IfSome, IfNone, List, ℕ, ◌∷◌, length};
+ghost use Rattle.std.specs.Prelude.{◌≡◌, ◌+◌, ◌<◌, ◌≤◌, ◌≢◌, IfOk, IfErr, IfSome, IfNone, List, ℕ, ◌∷◌, length, slice_index};
 ghost use Rattle.ci_lexer.specs.Faults.{FaultAt};
 ghost use Rattle.ci_lexer.specs.Fronts.{FrontAt};
 ghost use Rattle.ci_lexer.specs.Leads.{Leads};
-ghost use Rattle.ci_base.specs.Letters.{begins};
 ghost use Rattle.ci_tree.specs.declared.token.Sign.{Sign};
 ghost use Rattle.ci_tree.specs.Signs.{sign_bytes};
-ghost use Rattle.ci_lexer.specs.Fronts.{IsSignAt, single_sign};
+ghost use Rattle.ci_lexer.specs.Fronts.{IsSignAt, double_at, double_sign, single_sign};
 
 use crate::fault::LexFault;
 use crate::lead::Lead;
@@ -51,28 +50,43 @@ pub fn scan_sign(rest: &[u8], at: u32) -> Result<Step<'_>, LexFault>
 fn sign_at(rest: &[u8]) -> Option<(Sign, &[u8])>
     requires { Leads Lead.Other rest.now }
     ensures some { IfSome result (λ found. IsSignAt found.0 rest.now found.1.now) }
-    ensures none { IfNone result ((other : Sign) (more : List ℕ) → rest.now ≡ sign_bytes other ++ more → ⊥) }
+    ensures none { IfNone result ((other : Sign) (more : List ℕ) → slice_index rest.now 0 ∷ more ≡ sign_bytes other → ⊥) }
 {
     let behind = &rest[1..];
-    if begins_with(rest, b'<') && begins_with(behind, b'>') {
-        Some((Sign::Unequal, &behind[1..]))
-    } else if begins_with(rest, b'<') && begins_with(behind, b'=') {
-        Some((Sign::AtMost, &behind[1..]))
-    } else if begins_with(rest, b'>') && begins_with(behind, b'=') {
-        Some((Sign::AtLeast, &behind[1..]))
-    } else {
-        match single(rest[0]) {
+    match double_at(rest[0], behind) {
+        Some(sign) => Some((sign, &behind[1..])),
+        None => match single(rest[0]) {
             Some(sign) => Some((sign, behind)),
             None => None,
-        }
+        },
     }
 }
 
-/// Whether the byte stands at the front.
-fn begins_with(bytes: &[u8], b: u8) -> bool
-    ensures { result ≡ begins (λ c. c == b) bytes.now }
+/// The sign of this byte and the one behind it.
+fn double_at(first: u8, behind: &[u8]) -> Option<Sign>
+    ensures { result ≡ double_at first behind.now }
 {
-    bytes.len() > 0 && bytes[0] == b
+    if behind.len() > 0 {
+        double(first, behind[0])
+    } else {
+        None
+    }
+}
+
+/// The sign of two bytes.
+#[tactic(auto, unfolding(crate::specs::Fronts::double_sign))]
+fn double(first: u8, second: u8) -> Option<Sign>
+    ensures { result ≡ double_sign first second }
+{
+    if first == b'<' && second == b'>' {
+        Some(Sign::Unequal)
+    } else if first == b'<' && second == b'=' {
+        Some(Sign::AtMost)
+    } else if first == b'>' && second == b'=' {
+        Some(Sign::AtLeast)
+    } else {
+        None
+    }
 }
 
 /// The sign of one byte, `/` left out.

@@ -46,10 +46,13 @@ pub fn scan_text<'s>(alloc: Global, rest: &'s [u8], at: u32) -> Result<Step<'s>,
 {
     let mut value = ArrayVec::new();
     match scan_items(&rest[1..], &mut value) {
-        TextEnd::Closed { rest } => Ok(Step {
-            front: Front::Token(TokenKind::Text(Bytes::copy(alloc, value.as_slice())?)),
-            rest,
-        }),
+        TextEnd::Closed { rest: behind } => match Bytes::copy(alloc, value.as_slice()) {
+            Ok(bytes) => Ok(Step {
+                front: Front::Token(TokenKind::Text(bytes)),
+                rest: behind,
+            }),
+            Err(_) => Err(LexFault::Memory),
+        },
         TextEnd::BadEscape => Err(LexFault::BadEscape { at }),
         TextEnd::TooLong => Err(LexFault::TextTooLong { at }),
         TextEnd::LineEnd => Err(LexFault::OpenString { at }),

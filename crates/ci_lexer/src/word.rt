@@ -1,9 +1,13 @@
 //! Names and keywords.
-ghost use Rattle.std.specs.Prelude.{◌≡◌, ◌+◌, ◌<◌, ◌≤◌, ◌≢◌, IfOk, IfErr, length, slice_index};
+ghost use Rattle.std.specs.Prelude.{◌≡◌, ◌+◌, ◌<◌, ◌≤◌, ◌≢◌, true, Some, IfOk, IfErr, length};
 ghost use Rattle.ci_lexer.specs.Faults.{FaultAt};
 ghost use Rattle.ci_lexer.specs.Fronts.{FrontAt};
 ghost use Rattle.ci_lexer.specs.Leads.{Leads};
-ghost use Rattle.std.specs.List.{list_all};
+ghost use Rattle.ci_base.specs.Letters.{capital};
+ghost use Rattle.ci_base.specs.Names.{is_name};
+ghost use Rattle.ci_tree.specs.Tokens.{Spells};
+ghost use Rattle.ci_tree.specs.Words.{look_up, reserved, table};
+ghost use Rattle.ci_lexer.specs.Lengths.{words_of};
 use crate::fault::LexFault;
 use crate::lead::Lead;
 use crate::run::{Class, split_run};
@@ -21,26 +25,37 @@ pub fn scan_word<'s>(alloc: Global, rest: &'s [u8], at: u32) -> Result<Step<'s>,
     ensures err { IfErr result (λ fault. fault ≢ LexFault.Memory → FaultAt (at + length rest.now) rest.now fault) }
 {
     let (word, behind) = split_run(rest, Class::NameByte);
-    let what = word_token(alloc, word, at)?;
-    Ok(Step {
-        front: Front::Token(what),
-        rest: behind,
-    })
+    match word_token(alloc, word, at) {
+        Ok(what) => Ok(Step {
+            front: Front::Token(what),
+            rest: behind,
+        }),
+        Err(fault) => Err(fault),
+    }
 }
 
 /// The token that a word makes.
-fn word_token(alloc: Global, word: &[u8], at: u32) -> Result<TokenKind, LexFault> {
+fn word_token(alloc: Global, word: &[u8], at: u32) -> Result<TokenKind, LexFault>
+    requires { is_name word.now ≡ true }
+    ensures ok { IfOk result (λ what. Spells what word.now) }
+    ensures err { IfErr result (λ fault. fault ≢ LexFault.Memory → (fault ≡ LexFault.NameTooLong at) × (64 < length word.now)) }
+{
     if word.len() > 64 {
         return Err(LexFault::NameTooLong { at });
     }
     match reserved(word) {
         Some(token) => Ok(token),
-        None => Ok(TokenKind::Name(Bytes::copy(alloc, word)?)),
+        None => match Bytes::copy(alloc, word) {
+            Ok(name) => Ok(TokenKind::Name(name)),
+            Err(_) => Err(LexFault::Memory),
+        },
     }
 }
 
 /// The token that a word of any letter case makes, where it is no name.
-fn reserved(word: &[u8]) -> Option<TokenKind> {
+fn reserved(word: &[u8]) -> Option<TokenKind>
+    ensures { result ≡ reserved word.now }
+{
     if word.len() > 9 {
         return None;
     }
@@ -51,11 +66,18 @@ fn reserved(word: &[u8]) -> Option<TokenKind> {
     look_up(capitals.as_slice())
 }
 
-fn capital(b: u8) -> u8 {
+/// The capital of a letter; any other byte stays.
+#[tactic(auto, unfolding(ci_base::specs::Letters::capital, ci_base::specs::Letters::is_small))]
+fn capital(b: u8) -> u8
+    ensures { result ≡ capital b }
+{
     if b >= b'a' && b <= b'z' { b - 32 } else { b }
 }
 
-fn look_up(word: &[u8]) -> Option<TokenKind> {
+/// The token that a word in capitals makes, where it is no name.
+fn look_up(word: &[u8]) -> Option<TokenKind>
+    ensures { result ≡ look_up table word.now }
+{
     match word.len() {
         2 => look_up_2(word),
         3 => look_up_3(word),
@@ -69,7 +91,9 @@ fn look_up(word: &[u8]) -> Option<TokenKind> {
     }
 }
 
-fn look_up_2(word: &[u8]) -> Option<TokenKind> {
+fn look_up_2(word: &[u8]) -> Option<TokenKind>
+    ensures { result ≡ look_up (words_of 2) word.now }
+{
     if word == b"IF".as_slice() {
         keyword(Keyword::If)
     } else if word == b"DO".as_slice() {
@@ -85,11 +109,15 @@ fn look_up_2(word: &[u8]) -> Option<TokenKind> {
     }
 }
 
-fn keyword(word: Keyword) -> Option<TokenKind> {
+fn keyword(word: Keyword) -> Option<TokenKind>
+    ensures { result ≡ Some (TokenKind.Keyword word) }
+{
     Some(TokenKind::Keyword(word))
 }
 
-fn look_up_3(word: &[u8]) -> Option<TokenKind> {
+fn look_up_3(word: &[u8]) -> Option<TokenKind>
+    ensures { result ≡ look_up (words_of 3) word.now }
+{
     if word == b"END".as_slice() {
         keyword(Keyword::End)
     } else if word == b"FOR".as_slice() {
@@ -107,7 +135,9 @@ fn look_up_3(word: &[u8]) -> Option<TokenKind> {
     }
 }
 
-fn look_up_4(word: &[u8]) -> Option<TokenKind> {
+fn look_up_4(word: &[u8]) -> Option<TokenKind>
+    ensures { result ≡ look_up (words_of 4) word.now }
+{
     if word == b"THEN".as_slice() {
         keyword(Keyword::Then)
     } else if word == b"ELSE".as_slice() {
@@ -123,7 +153,9 @@ fn look_up_4(word: &[u8]) -> Option<TokenKind> {
     }
 }
 
-fn look_up_5(word: &[u8]) -> Option<TokenKind> {
+fn look_up_5(word: &[u8]) -> Option<TokenKind>
+    ensures { result ≡ look_up (words_of 5) word.now }
+{
     if word == b"WHILE".as_slice() {
         keyword(Keyword::While)
     } else if word == b"BITOR".as_slice() {
@@ -135,7 +167,9 @@ fn look_up_5(word: &[u8]) -> Option<TokenKind> {
     }
 }
 
-fn look_up_6(word: &[u8]) -> Option<TokenKind> {
+fn look_up_6(word: &[u8]) -> Option<TokenKind>
+    ensures { result ≡ look_up (words_of 6) word.now }
+{
     if word == b"SELECT".as_slice() {
         keyword(Keyword::Select)
     } else if word == b"RETURN".as_slice() {
@@ -159,7 +193,9 @@ fn look_up_6(word: &[u8]) -> Option<TokenKind> {
     }
 }
 
-fn look_up_7(word: &[u8]) -> Option<TokenKind> {
+fn look_up_7(word: &[u8]) -> Option<TokenKind>
+    ensures { result ≡ look_up (words_of 7) word.now }
+{
     if word == b"PRIVATE".as_slice() {
         keyword(Keyword::Private)
     } else if word == b"QUALITY".as_slice() {
@@ -169,7 +205,9 @@ fn look_up_7(word: &[u8]) -> Option<TokenKind> {
     }
 }
 
-fn look_up_8(word: &[u8]) -> Option<TokenKind> {
+fn look_up_8(word: &[u8]) -> Option<TokenKind>
+    ensures { result ≡ look_up (words_of 8) word.now }
+{
     if word == b"FUNCTION".as_slice() {
         keyword(Keyword::Function)
     } else {
@@ -177,7 +215,9 @@ fn look_up_8(word: &[u8]) -> Option<TokenKind> {
     }
 }
 
-fn look_up_9(word: &[u8]) -> Option<TokenKind> {
+fn look_up_9(word: &[u8]) -> Option<TokenKind>
+    ensures { result ≡ look_up (words_of 9) word.now }
+{
     if word == b"TIMESTAMP".as_slice() {
         keyword(Keyword::Timestamp)
     } else {
