@@ -1,4 +1,5 @@
 pub mod Backs
+pub mod Escaping
 pub mod Items
 pub mod Leading
 pub mod Runs

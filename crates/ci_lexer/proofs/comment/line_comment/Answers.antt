@@ -1,10 +1,7 @@
-use Rattle.std.proofs.Common.{rules, ◌≡◌, ◌+◌, ◌≤◌, ◌≢◌, ℕ, List, ◌∷◌, ◌++◌, [], IfOk, IfErr, IfSome, IfNone, length, false, ◌-◌, ◌*◌, ◌<◌, ◌/◌, ◌%◌, Bool, true, nat_eq, nat_lt, slice_index_or, slice_set, bit_and, bit_or, Fits, w8, w32, w64, Bor, MutBor}
-use Rattle.ci_tree.specs.Comments.{has_close}
-use Rattle.ci_lexer.specs.Faults.{FaultAt}
-use Rattle.ci_lexer.specs.Fronts.{FrontAt, IsClosed}
-use Rattle.ci_lexer.specs.Leads.{Leads}
+use Rattle.ci_lexer.proofs.Steps.{slashed_step}
 use Rattle.ci_lexer.proofs.comment.line_comment.Goals as goal
 
--- src/comment.rt:44:1
 pub returns : goal.returns
-returns c = ?
+returns c =
+    let run = c.split_run.ensures in
+    slashed_step c.args.rest.now c.args.body.now c.split_run.result.0.now c.split_run.result.1.now c.requires run.whole run.each run.longest

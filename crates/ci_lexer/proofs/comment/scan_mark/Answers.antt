@@ -1,10 +1,10 @@
-use Rattle.std.proofs.Common.{rules, ◌≡◌, ◌+◌, ◌≤◌, ◌≢◌, ℕ, List, ◌∷◌, ◌++◌, [], IfOk, IfErr, IfSome, IfNone, length, false, ◌-◌, ◌*◌, ◌<◌, ◌/◌, ◌%◌, Bool, true, nat_eq, nat_lt, slice_index_or, slice_set, bit_and, bit_or, Fits, w8, w32, w64, Bor, MutBor}
-use Rattle.ci_tree.specs.Comments.{has_close}
-use Rattle.ci_lexer.specs.Faults.{FaultAt}
-use Rattle.ci_lexer.specs.Fronts.{FrontAt, IsClosed}
-use Rattle.ci_lexer.specs.Leads.{Leads}
+use Rattle.std.proofs.Common.{length, ◌-◌, take, drop}
+use Rattle.ci_lexer.specs.declared.lead.Lead.TheVariants.{Mark}
+use Rattle.ci_lexer.proofs.Steps.{mark_step, first_rest}
 use Rattle.ci_lexer.proofs.comment.scan_mark.Goals as goal
 
--- src/comment.rt:15:1
 pub returns : goal.returns
-returns c = ?
+returns c =
+    let run = c.split_run.ensures in
+    let s = c.args.rest.now in
+    mark_step s (take (length s - 1) (drop 1 s)) c.split_run.result.0.now c.split_run.result.1.now c.requires (first_rest Mark s c.requires) run.whole run.each run.longest

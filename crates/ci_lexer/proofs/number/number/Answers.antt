@@ -1,22 +1,17 @@
-use Rattle.std.proofs.Common.{rules, ◌≡◌, ◌+◌, ◌^◌, ◌<◌, ◌≤◌, ◌≢◌, false, IfOk, IfErr, length, true, MatchOption, ◌++◌, ℕ, ◌-◌, ◌*◌, ◌/◌, ◌%◌, Bool, nat_eq, nat_lt, List, [], ◌∷◌, slice_index_or, slice_set, bit_and, bit_or, Fits, w8, w32, w64, Bor, MutBor, ℤ, pos, ◌+ℤ◌, ◌-ℤ◌, ◌*ℤ◌, ◌≤ℤ◌, ◌<ℤ◌, FitsSigned, to_z, of_z}
-use Rattle.ci_lexer.specs.Faults.{FaultAt}
-use Rattle.ci_lexer.specs.Fronts.{FrontAt, hex_start}
-use Rattle.ci_lexer.specs.Leads.{Leads}
-use Rattle.std.specs.Char.{digit_value}
-use Rattle.std.specs.Str.Parse.{digits_value}
-use Rattle.ci_base.specs.Letters.{begins, is_letter}
-use Rattle.ci_base.specs.Numbers.{is_number, number_limit, number_value}
-use Rattle.ci_tree.specs.Shapes.{IsWhole}
+use Rattle.std.proofs.Common.{sym, ◌∙◌, subst, arith}
+use Rattle.std.proofs.lemmas.Int.{ints}
+use Rattle.ci_lexer.proofs.Steps.{number_step, number_fault, run_on_fault}
 use Rattle.ci_lexer.proofs.number.number.Goals as goal
 
--- src/number.rt:68:1
 pub returns-in-None-clause-err : goal.returns-in-None-clause-err
-returns-in-None-clause-err c = ?
+returns-in-None-clause-err c = λ _.
+    let large = rw c.in-None.is at c.requires.value in
+    number_fault c.args.rest.now c.args.spelled.now c.args.behind.now c.args.at c.requires.whole c.requires.number c.requires.longest large
 
--- src/number.rt:68:1
 pub returns-in-Some-clause-err : goal.returns-in-Some-clause-err
-returns-in-Some-clause-err c = ?
+returns-in-Some-clause-err c = λ _.
+    let value = rw c.in-Some.is at c.requires.value in
+    run_on_fault c.args.rest.now c.args.spelled.now c.args.behind.now c.args.at c.requires.whole c.requires.number c.requires.longest (omega (arith, value.0, value.1)) (sym c.begins_letter.ensures ∙ c.if-begins_letter.true)
 
--- src/number.rt:68:1
 pub returns-in-Some-2-clause-ok : goal.returns-in-Some-2-clause-ok
 returns-in-Some-2-clause-ok c = ?

@@ -1,16 +1,12 @@
-use Rattle.std.proofs.Common.{rules, ◌≡◌, ◌==◌, ◌++◌, ◌+◌, ◌<◌, ◌≤◌, ◌≢◌, IfOk, IfErr, IfSome, IfNone, List, ℕ, ◌∷◌, length, ◌-◌, ◌*◌, ◌/◌, ◌%◌, Bool, true, false, nat_eq, nat_lt, [], slice_index_or, slice_set, bit_and, bit_or, Fits, w8, w32, w64, Bor, MutBor}
-use Rattle.ci_lexer.specs.Faults.{FaultAt}
-use Rattle.ci_lexer.specs.Fronts.{FrontAt, IsSignAt, single_sign}
-use Rattle.ci_lexer.specs.Leads.{Leads}
-use Rattle.ci_base.specs.Letters.{begins}
-use Rattle.ci_tree.specs.declared.token.Sign.{Sign}
-use Rattle.ci_tree.specs.Signs.{sign_bytes}
+use Rattle.ci_lexer.proofs.Steps.{hash_step, hash_fault}
 use Rattle.ci_lexer.proofs.sign.scan_hashes.Goals as goal
 
--- src/sign.rt:26:9
 pub returns-then-hashes-gt255-clause-err : goal.returns-then-hashes-gt255-clause-err
-returns-then-hashes-gt255-clause-err c = ?
+returns-then-hashes-gt255-clause-err c = λ _.
+    let run = c.split_run.ensures in
+    hash_fault c.args.rest.now c.split_run.result.0.now c.split_run.result.1.now c.args.at c.requires.lead run.whole run.each run.longest c.if-hashes-gt255.true
 
--- src/sign.rt:18:1
 pub returns-clause-ok : goal.returns-clause-ok
-returns-clause-ok c = ?
+returns-clause-ok c =
+    let run = c.split_run.ensures in
+    hash_step c.args.rest.now c.split_run.result.0.now c.split_run.result.1.now c.requires.lead run.whole run.each run.longest c.if-hashes-gt255.false

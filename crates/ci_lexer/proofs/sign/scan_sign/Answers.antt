@@ -1,16 +1,8 @@
-use Rattle.std.proofs.Common.{rules, ◌≡◌, ◌==◌, ◌++◌, ◌+◌, ◌<◌, ◌≤◌, ◌≢◌, IfOk, IfErr, IfSome, IfNone, List, ℕ, ◌∷◌, length, ◌-◌, ◌*◌, ◌/◌, ◌%◌, Bool, true, false, nat_eq, nat_lt, [], slice_index_or, slice_set, bit_and, bit_or, Fits, w8, w32, w64, Bor, MutBor}
-use Rattle.ci_lexer.specs.Faults.{FaultAt}
-use Rattle.ci_lexer.specs.Fronts.{FrontAt, IsSignAt, single_sign}
-use Rattle.ci_lexer.specs.Leads.{Leads}
-use Rattle.ci_base.specs.Letters.{begins}
-use Rattle.ci_tree.specs.declared.token.Sign.{Sign}
-use Rattle.ci_tree.specs.Signs.{sign_bytes}
+use Rattle.ci_lexer.proofs.Steps.{sign_step, stray_fault}
 use Rattle.ci_lexer.proofs.sign.scan_sign.Goals as goal
 
--- src/sign.rt:35:1
 pub returns-in-Some-clause-ok : goal.returns-in-Some-clause-ok
 returns-in-Some-clause-ok c = ?
 
--- src/sign.rt:35:1
 pub returns-in-None-clause-err : goal.returns-in-None-clause-err
-returns-in-None-clause-err c = ?
+returns-in-None-clause-err c = λ _. stray_fault c.args.rest.now c.args.at c.requires.lead c.in-None.ensures.none

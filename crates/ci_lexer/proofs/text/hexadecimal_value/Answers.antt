@@ -1,17 +1,10 @@
-use Rattle.std.proofs.Common.{rules, ◌≡◌, ◌+◌, ◌*◌, ◌<◌, ◌≤◌, ◌≢◌, ◌==◌, [], true, false, IfOk, IfErr, length, ℕ, ◌-◌, ◌/◌, ◌%◌, Bool, nat_eq, nat_lt, List, ◌∷◌, ◌++◌, slice_index_or, slice_set, bit_and, bit_or, Fits, w8, w32, w64, Bor, MutBor}
-use Rattle.std.specs.Char.{digit_value}
-use Rattle.ci_base.specs.Letters.{begins, is_hex_digit}
-use Rattle.ci_base.specs.Texts.{escape, is_plain}
-use Rattle.ci_lexer.specs.Escapes.{hex_escape}
-use Rattle.ci_lexer.specs.Faults.{FaultAt}
-use Rattle.ci_lexer.specs.Fronts.{FrontAt, ItemAt, EndsText}
-use Rattle.ci_lexer.specs.Leads.{Leads}
+use Rattle.std.proofs.Common.{arith}
+use Rattle.ci_lexer.proofs.Escaping.{hex_small}
 use Rattle.ci_lexer.proofs.text.hexadecimal_value.Goals as goal
 
--- src/text.rt:160:5
 pub overflow_mul-result : goal.overflow_mul-result
-overflow_mul-result c = ?
+overflow_mul-result c = omega (arith, hex_small c.args.high c.requires.high, c.digit_value.ensures.value)
 
--- src/text.rt:160:5
 pub overflow_add-result : goal.overflow_add-result
-overflow_add-result c = ?
+overflow_add-result c =
+    omega (arith, hex_small c.args.high c.requires.high, c.digit_value.ensures.value, hex_small c.args.low c.requires.low, c.digit_value-2.ensures.value)

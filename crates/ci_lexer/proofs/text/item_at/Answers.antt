@@ -1,17 +1,11 @@
-use Rattle.std.proofs.Common.{rules, ◌≡◌, ◌+◌, ◌*◌, ◌<◌, ◌≤◌, ◌≢◌, ◌==◌, [], true, false, IfOk, IfErr, length, ℕ, ◌-◌, ◌/◌, ◌%◌, Bool, nat_eq, nat_lt, List, ◌∷◌, ◌++◌, slice_index_or, slice_set, bit_and, bit_or, Fits, w8, w32, w64, Bor, MutBor}
-use Rattle.std.specs.Char.{digit_value}
-use Rattle.ci_base.specs.Letters.{begins, is_hex_digit}
-use Rattle.ci_base.specs.Texts.{escape, is_plain}
-use Rattle.ci_lexer.specs.Escapes.{hex_escape}
-use Rattle.ci_lexer.specs.Faults.{FaultAt}
-use Rattle.ci_lexer.specs.Fronts.{FrontAt, ItemAt, EndsText}
-use Rattle.ci_lexer.specs.Leads.{Leads}
+use Rattle.std.proofs.Common.{sym, ◌∙◌}
+use Rattle.ci_lexer.proofs.Escaping.{plain_at, end_at}
 use Rattle.ci_lexer.proofs.text.item_at.Goals as goal
 
--- src/text.rt:81:1
 pub returns-then-is_plain : goal.returns-then-is_plain
-returns-then-is_plain c = ?
+returns-then-is_plain c =
+    plain_at c.args.left.now (sym c.is_empty.ensures ∙ c.if-is_empty.false) (sym c.is_plain.ensures ∙ c.if-is_plain.true)
 
--- src/text.rt:81:1
 pub returns-else-first-eq94 : goal.returns-else-first-eq94
-returns-else-first-eq94 c = ?
+returns-else-first-eq94 c =
+    end_at c.args.left.now (sym c.is_empty.ensures ∙ c.if-is_empty.false) (sym c.is_plain.ensures ∙ c.if-is_plain.false) c.if-first-eq34.false c.if-first-eq94.false
