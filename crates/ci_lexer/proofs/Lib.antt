@@ -5,3 +5,5 @@ pub mod Leading
 pub mod Runs
 pub mod Steps
 pub mod Wholes
+pub mod Words
+pub mod Closing

@@ -2,11 +2,11 @@
 ghost use Rattle.std.specs.Prelude.{◌≡◌, ◌+◌, ◌≤◌, ◌≢◌, ℕ, List, ◌∷◌, ◌++◌, [], IfOk, IfErr, IfSome, IfNone, length, false};
 ghost use Rattle.ci_tree.specs.Comments.{has_close};
 ghost use Rattle.ci_lexer.specs.Faults.{FaultAt};
-ghost use Rattle.ci_lexer.specs.Fronts.{FrontAt, IsClosed};
+ghost use Rattle.ci_lexer.specs.Fronts.{FrontAt, IsClosed, closes};
 ghost use Rattle.ci_lexer.specs.Leads.{Leads};
 
 use crate::fault::LexFault;
-use crate::lead::Lead;
+use crate::lead::{Lead, begins_with};
 use crate::run::{Class, split_run};
 use crate::step::{Front, Step};
 use ci_tree::{Sign, TokenKind};
@@ -30,13 +30,16 @@ pub fn scan_slash(rest: &[u8], at: u32) -> Result<Step<'_>, LexFault>
     ensures ok { IfOk result (λ step. FrontAt step.front rest.now step.rest.now) }
     ensures err { IfErr result (λ fault. fault ≢ LexFault.Memory → FaultAt (at + length rest.now) rest.now fault) }
 {
-    match &rest[1..] {
-        [b'/', body @ ..] => Ok(line_comment(rest, body)),
-        [b'*', body @ ..] => enclosed_comment(rest, body, at),
-        behind => Ok(Step {
+    let behind = &rest[1..];
+    if begins_with(behind, b'/') {
+        Ok(line_comment(rest, &behind[1..]))
+    } else if begins_with(behind, b'*') {
+        enclosed_comment(rest, &behind[1..], at)
+    } else {
+        Ok(Step {
             front: Front::Token(TokenKind::Sign(Sign::Slash)),
             rest: behind,
-        }),
+        })
     }
 }
 
@@ -73,13 +76,19 @@ fn behind_close(body: &[u8]) -> Option<&[u8]>
     ensures none { IfNone result (has_close body.now ≡ false) }
 {
     let mut left = body;
-    while let [first, behind @ ..] = left {
-        if *first == b'*'
-            && let [b'/', after @ ..] = behind
-        {
-            return Some(after);
+    while !left.is_empty() {
+        if closes(left) {
+            return Some(&left[2..]);
         }
-        left = behind;
+        left = &left[1..];
     }
     None
+}
+
+/// Whether `*/` stands at the front.
+#[inline(always)]
+fn closes(bytes: &[u8]) -> bool
+    ensures { result ≡ closes bytes.now }
+{
+    bytes.len() > 1 && bytes[0] == b'*' && bytes[1] == b'/'
 }

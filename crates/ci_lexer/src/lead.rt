@@ -1,6 +1,6 @@
 //! What the first byte of a token tells.
-ghost use Rattle.std.specs.Prelude.{◌≡◌};
-ghost use Rattle.ci_base.specs.Letters.{is_digit, is_hex_digit, is_letter, is_white};
+ghost use Rattle.std.specs.Prelude.{◌≡◌, ◌==◌};
+ghost use Rattle.ci_base.specs.Letters.{begins, is_digit, is_hex_digit, is_letter, is_white};
 ghost use Rattle.ci_lexer.specs.Leads.{lead};
 
 /// What may begin with a byte.
@@ -78,4 +78,12 @@ pub fn is_white(b: u8) -> bool
     ensures { result ≡ is_white b }
 {
     (b >= b'\t' && b <= b'\r') || b == b' '
+}
+
+/// Whether the byte stands at the front.
+#[inline(always)]
+pub fn begins_with(bytes: &[u8], b: u8) -> bool
+    ensures { result ≡ begins (λ c. c == b) bytes.now }
+{
+    bytes.len() > 0 && bytes[0] == b
 }

@@ -45,10 +45,12 @@ pub fn scan_text<'s>(alloc: Global, rest: &'s [u8], at: u32) -> Result<Step<'s>,
     ensures err { IfErr result (λ fault. fault ≢ LexFault.Memory → FaultAt (at + length rest.now) rest.now fault) }
 {
     let mut value = ArrayVec::new();
-    match scan_items(&rest[1..], &mut value) {
-        TextEnd::Closed { rest: behind } => match Bytes::copy(alloc, value.as_slice()) {
-            Ok(bytes) => Ok(Step {
-                front: Front::Token(TokenKind::Text(bytes)),
+    let end = scan_items(&rest[1..], &mut value);
+    let bytes = value.as_slice();
+    match end {
+        TextEnd::Closed { rest: behind } => match Bytes::copy(alloc, bytes) {
+            Ok(text) => Ok(Step {
+                front: Front::Token(TokenKind::Text(text)),
                 rest: behind,
             }),
             Err(_) => Err(LexFault::Memory),

@@ -91,6 +91,7 @@ fn look_up(word: &[u8]) -> Option<TokenKind>
     }
 }
 
+#[tactic(auto, unfolding(ci_tree::specs::Words::table))]
 fn look_up_2(word: &[u8]) -> Option<TokenKind>
     ensures { result ≡ look_up (words_of 2) word.now }
 {
@@ -115,6 +116,7 @@ fn keyword(word: Keyword) -> Option<TokenKind>
     Some(TokenKind::Keyword(word))
 }
 
+#[tactic(auto, unfolding(ci_tree::specs::Words::table))]
 fn look_up_3(word: &[u8]) -> Option<TokenKind>
     ensures { result ≡ look_up (words_of 3) word.now }
 {
@@ -135,6 +137,7 @@ fn look_up_3(word: &[u8]) -> Option<TokenKind>
     }
 }
 
+#[tactic(auto, unfolding(ci_tree::specs::Words::table))]
 fn look_up_4(word: &[u8]) -> Option<TokenKind>
     ensures { result ≡ look_up (words_of 4) word.now }
 {
@@ -153,6 +156,7 @@ fn look_up_4(word: &[u8]) -> Option<TokenKind>
     }
 }
 
+#[tactic(auto, unfolding(ci_tree::specs::Words::table))]
 fn look_up_5(word: &[u8]) -> Option<TokenKind>
     ensures { result ≡ look_up (words_of 5) word.now }
 {
@@ -167,6 +171,7 @@ fn look_up_5(word: &[u8]) -> Option<TokenKind>
     }
 }
 
+#[tactic(auto, unfolding(ci_tree::specs::Words::table))]
 fn look_up_6(word: &[u8]) -> Option<TokenKind>
     ensures { result ≡ look_up (words_of 6) word.now }
 {
@@ -193,6 +198,7 @@ fn look_up_6(word: &[u8]) -> Option<TokenKind>
     }
 }
 
+#[tactic(auto, unfolding(ci_tree::specs::Words::table))]
 fn look_up_7(word: &[u8]) -> Option<TokenKind>
     ensures { result ≡ look_up (words_of 7) word.now }
 {
@@ -205,6 +211,7 @@ fn look_up_7(word: &[u8]) -> Option<TokenKind>
     }
 }
 
+#[tactic(auto, unfolding(ci_tree::specs::Words::table))]
 fn look_up_8(word: &[u8]) -> Option<TokenKind>
     ensures { result ≡ look_up (words_of 8) word.now }
 {
@@ -215,6 +222,7 @@ fn look_up_8(word: &[u8]) -> Option<TokenKind>
     }
 }
 
+#[tactic(auto, unfolding(ci_tree::specs::Words::table))]
 fn look_up_9(word: &[u8]) -> Option<TokenKind>
     ensures { result ≡ look_up (words_of 9) word.now }
 {

@@ -6,7 +6,7 @@ use Rattle.ci_tree.specs.declared.token.TokenKind.TheVariants.{Number, Keyword a
 use Rattle.ci_tree.specs.declared.token.Keyword.TheVariants as words
 
 -- a word in capitals, and the token that it makes
-abbrev pub table : List (List ℕ × TokenKind)
+unfoldable pub table : List (List ℕ × TokenKind)
 table =
     (codes "FUNCTION", keyword words.Function)
     ∷ (codes "END", keyword words.End)

@@ -1,5 +1,5 @@
-use Rattle.std.proofs.Common.{sym, ◌∙◌, subst, arith}
-use Rattle.std.proofs.lemmas.Int.{ints}
+use Rattle.std.proofs.Common.{sym, ◌∙◌, ap, subst, arith, rules, to_z, w32, to_z-of_z, ℤ}
+use mir.Val.{SFits}
 use Rattle.ci_lexer.proofs.Steps.{number_step, number_fault, run_on_fault}
 use Rattle.ci_lexer.proofs.number.number.Goals as goal
 
@@ -14,4 +14,9 @@ returns-in-Some-clause-err c = λ _.
     run_on_fault c.args.rest.now c.args.spelled.now c.args.behind.now c.args.at c.requires.whole c.requires.number c.requires.longest (omega (arith, value.0, value.1)) (sym c.begins_letter.ensures ∙ c.if-begins_letter.true)
 
 pub returns-in-Some-2-clause-ok : goal.returns-in-Some-2-clause-ok
-returns-in-Some-2-clause-ok c = ?
+returns-in-Some-2-clause-ok c =
+    let value = rw c.in-Some-2.is at c.requires.value in
+    let fits : SFits w32 c.cast_signed.result = search rules in
+    number_step c.args.rest.now c.args.spelled.now c.args.behind.now _ c.requires.whole c.requires.number c.requires.longest (omega (arith, value.0, value.1))
+    (to_z-of_z fits ∙ c.cast_signed.ensures ∙ ap (to_z w32) value.0)
+    (sym c.begins_letter.ensures ∙ c.if-begins_letter.false)
