@@ -1,5 +1,5 @@
 -- Where a comment is closed, and where a hexadecimal number is split.
-use Rattle.std.proofs.Common.{◌≡◌, ℕ, ◌+◌, ◌-◌, ◌*◌, ◌^◌, ◌<◌, ◌≤◌, Bool, true, false, ◌&&◌, ◌||◌, List, [], ◌∷◌, ◌++◌, length, take, drop, get_or, sym, refl, ap, ap₂, ◌∙◌, subst, arith, ◌==◌, suc, length-append, take_at, cond, inl, inr, ⊎_elim, true≢false, mul-le-mul, le-mul_of_pos_right, le_trans, lt_of_lt_of_le}
+use Rattle.std.proofs.Common.{◌≡◌, ℕ, ◌+◌, ◌-◌, ◌*◌, ◌^◌, ◌<◌, ◌≤◌, Bool, true, false, ◌&&◌, ◌||◌, List, [], ◌∷◌, ◌++◌, length, take, drop, get_or, sym, refl, ap, ap₂, ◌∙◌, subst, arith, ◌==◌, suc, length-append, append_assoc, take_at, cond, inl, inr, ⊎_elim, true≢false, mul-le-mul, le-mul_of_pos_right, le_trans, lt_of_lt_of_le}
 use Rattle.std.specs.List.{list_all}
 use Rattle.std.specs.Char.{digit_value}
 use Rattle.std.specs.Str.Parse.{digits_value}
@@ -10,12 +10,19 @@ use Rattle.ci_base.specs.Numbers.{is_decimal, is_hexadecimal, is_number, number_
 use Rattle.ci_tree.specs.Comments.{has_close}
 use Rattle.ci_tree.specs.Shapes.{IsWhole}
 use Rattle.ci_lexer.specs.declared.lead.Lead.{Lead}
-use Rattle.ci_lexer.specs.declared.lead.Lead.TheVariants.{Digit, Slash}
+use Rattle.ci_lexer.specs.declared.lead.Lead.TheVariants.{Digit, Slash, Quote}
 use Rattle.ci_lexer.specs.Fronts.{IsClosed, closes, hex_start}
 use Rattle.ci_lexer.specs.Leads.{lead, Leads}
-use Rattle.ci_lexer.proofs.Backs.{begins-lead, is_digit-lead, slash-lead}
+use Rattle.ci_lexer.proofs.Backs.{begins-lead, is_digit-lead, slash-lead, quote-lead}
 use Rattle.ci_lexer.proofs.Runs.{begins_run, list_all-front}
-use Rattle.ci_lexer.proofs.Wholes.{decimal_whole, hexadecimal_whole, hex_start-hexadecimal}
+use Rattle.ci_lexer.proofs.Wholes.{decimal_whole, hexadecimal_whole, hex_start-hexadecimal, text_whole}
+use Rattle.ci_base.specs.Texts.{AreItems, BeginsItem}
+use Rattle.ci_tree.specs.Tokens.{TokenAt}
+use Rattle.ci_tree.specs.declared.token.TokenKind.TheVariants as kinds
+use Rattle.ci_lexer.specs.declared.fault.LexFault.TheVariants.{BadEscape, TextTooLong, OpenString}
+use Rattle.ci_lexer.specs.Faults.{FaultAt, stops_text}
+use Rattle.ci_lexer.specs.Faults.FaultAt.{bad_escape, text_too_long, open_string}
+use Rattle.ci_lexer.proofs.Steps.{first_rest, first_lead, not_number}
 
 pub closed_here : (s : List ℕ) → closes s ≡ true → IsClosed s (take (length s - 2) (drop 2 s))
 closed_here [] h = absurd (true≢false (sym h))
@@ -105,7 +112,7 @@ hexadecimal_split (z ∷ x ∷ t) digits rest start e all stop =
 -- what the value of digits is after one more
 pub value_step : (base limit value sum digit : ℕ) → 1 ≤ base → base ≤ 16 → limit < 2 ^ 32 → value ≤ limit → value ≡ sum → digit ≤ 36 → (value * base + digit < 2 ^ 40) × (value * base + digit ≡ sum * base + digit)
 value_step base limit value sum digit least most bound small same low = (
-  (let product : value * base ≤ 2 ^ 32 * 16 = mul-le-mul (omega arith) most in omega arith),
+  (let below : value ≤ 2 ^ 32 = omega arith in let product : value * base ≤ 2 ^ 32 * 16 = mul-le-mul below most in omega arith),
   ap (λ n. n * base + digit) same,
 )
 
@@ -113,3 +120,36 @@ value_step base limit value sum digit least most bound small same low = (
 pub value_above : (base limit sum digit : ℕ) → 1 ≤ base → limit < sum → limit < sum * base + digit
 value_above base limit sum digit least above =
     let more : sum ≤ sum * base = le-mul_of_pos_right sum least in omega arith
+
+pub split_value : {s digits rest spelled : List ℕ} → IsSplit s digits rest spelled → number_value spelled ≡ digits_value 16 digits
+split_value {s} {digits} {rest} {spelled} split =
+    ap (λ t. cond t (digits_value 16 (drop 2 spelled)) (digits_value 10 spelled)) split.is ∙ ap (digits_value 16) split.tail
+
+pub split_limit : {s digits rest spelled : List ℕ} → IsSplit s digits rest spelled → number_limit spelled ≡ 4294967295
+split_limit split = ap (λ t. cond t 4294967295 2147483648) split.is
+
+-- a text at the front, of which this is what stands behind the quote
+pub quote_rest : (s : List ℕ) → Leads Quote s → s ≡ 34 ∷ take (length s - 1) (drop 1 s)
+quote_rest s leads =
+    first_rest Quote s leads ∙ ap (λ b. b ∷ take (length s - 1) (drop 1 s)) (quote-lead (get_or s 0 0) (first_lead Quote s leads))
+
+pub text_step : (s items value rest : List ℕ) → Leads Quote s → take (length s - 1) (drop 1 s) ≡ items ++ 34 ∷ rest → AreItems items value → length value ≤ 255 → TokenAt (kinds.Text value) s rest
+text_step s items value rest leads split are short = record {
+  spelled = 34 ∷ items ++ 34 ∷ [];
+  whole = quote_rest s leads ∙ ap (λ l. 34 ∷ l) (split ∙ sym (append_assoc items (34 ∷ []) rest));
+  token = ((items, are, refl), short);
+  longest = text_whole items value rest are;
+  apart = λ number. absurd (not_number Quote s (34 ∷ items ++ 34 ∷ []) rest leads (λ h. cc) (quote_rest s leads ∙ ap (λ l. 34 ∷ l) (split ∙ sym (append_assoc items (34 ∷ []) rest))) number);
+}
+
+pub escape_fault : (s items value rest : List ℕ) (at : ℕ) → Leads Quote s → take (length s - 1) (drop 1 s) ≡ items ++ 94 ∷ rest → AreItems items value → length value ≤ 255 → (BeginsItem (94 ∷ rest) → ⊥) → FaultAt (at + length s) s (BadEscape at)
+escape_fault s items value rest at leads split are short none =
+    bad_escape s at items value rest (quote_rest s leads ∙ ap (λ l. 34 ∷ l) split) refl are short none
+
+pub long_fault : (s items value rest : List ℕ) (at : ℕ) → Leads Quote s → take (length s - 1) (drop 1 s) ≡ items ++ rest → AreItems items value → length value ≡ 256 → FaultAt (at + length s) s (TextTooLong at)
+long_fault s items value rest at leads split are long =
+    text_too_long s at items value rest (quote_rest s leads ∙ ap (λ l. 34 ∷ l) split) refl are long
+
+pub open_fault : (s items value rest : List ℕ) (at : ℕ) → Leads Quote s → take (length s - 1) (drop 1 s) ≡ items ++ rest → AreItems items value → length value ≤ 255 → stops_text rest ≡ true → FaultAt (at + length s) s (OpenString at)
+open_fault s items value rest at leads split are short stop =
+    open_string s at items value rest (quote_rest s leads ∙ ap (λ l. 34 ∷ l) split) refl are short stop

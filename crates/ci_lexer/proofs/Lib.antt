@@ -7,3 +7,4 @@ pub mod Steps
 pub mod Wholes
 pub mod Words
 pub mod Closing
+pub mod Reading

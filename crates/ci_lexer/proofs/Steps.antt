@@ -354,3 +354,8 @@ run_on_fault s spelled (b ∷ rest) at e is longest fits begun =
     run_on s (at + length spelled) (wrap (pos (number_value spelled))) spelled b rest e
     (omega (arith, ap length e, length-append spelled (b ∷ rest)))
     (inr (is, fits, refl)) is longest begun
+
+-- what `double_at` finds stands at the front
+pub double_front : (s : List ℕ) (b : ℕ) (g : Sign) → double_at b s ≡ Some g → (c : ℕ) × (s ≡ c ∷ take (length s - 1) (drop 1 s)) × (double_sign b c ≡ Some g)
+double_front [] b g e = absurd cc
+double_front (c ∷ s) b g e = (c, ap (λ l. c ∷ l) (sym (take_rest (c ∷ s) 1)), e)

@@ -1,8 +1,8 @@
 -- The words that are no names.
-use Rattle.std.proofs.Common.{◌≡◌, ℕ, ◌≤◌, ◌<◌, Bool, true, false, cond, ◌&&◌, List, [], ◌∷◌, length, map, Option, Some, None, bytes_eq, sym, refl, ap, ◌∙◌, subst, arith, eqb, nat_eq, filter, inr, inl, leb, ◌⊎◌, ⊎_elim}
+use Rattle.std.proofs.Common.{◌≡◌, ℕ, ◌≤◌, ◌<◌, Bool, true, false, cond, ◌&&◌, List, [], ◌∷◌, length, map, Option, Some, None, bytes_eq, sym, refl, ap, ◌∙◌, subst, arith, eqb, nat_eq, filter, inr, inl, leb, ltb, pos, negsuc, ℤ, FitsSigned, w32, ◌⊎◌, ⊎_elim}
 use Rattle.std.specs.List.{list_all}
 use Rattle.std.proofs.lemmas.List.{length-map}
-use Rattle.std.proofs.lemmas.Bool.{and_parts, both_ways, true≢false, cases_Bool, eq-eqb, false_from_ne_true, eqb-true, false_from_ne_true, leb-true}
+use Rattle.std.proofs.lemmas.Bool.{and_parts, both_ways, true≢false, cases_Bool, eq-eqb, false_from_ne_true, eqb-true, false_from_ne_true, leb-true, ltb-true}
 use Rattle.std.proofs.lemmas.Slice.Eq.{bytes_eq-Decides}
 use Rattle.ci_base.specs.Letters.{capital}
 use Rattle.ci_base.specs.Names.{is_name}
@@ -62,7 +62,8 @@ none_long word long = none_outside (map capital word) (inr (omega (arith, length
 abbrev is_word_kind : TokenKind → Bool
 is_word_kind (kinds.Name bytes) = false
 is_word_kind (kinds.Keyword word) = true
-is_word_kind (kinds.Number value) = true
+is_word_kind (kinds.Number (pos n)) = ltb n 2
+is_word_kind (kinds.Number (negsuc n)) = false
 is_word_kind (kinds.Text value) = false
 is_word_kind (kinds.Hashes count) = false
 is_word_kind (kinds.Sign sign) = false
@@ -90,3 +91,11 @@ reserved_spells word k is e = by_kind k (found_kind table (map capital word) k r
   by_kind (kinds.Text value) h e = absurd (true≢false (sym h))
   by_kind (kinds.Hashes count) h e = absurd (true≢false (sym h))
   by_kind (kinds.Sign sign) h e = absurd (true≢false (sym h))
+
+-- the number that a word makes is an INT
+pub reserved_fits : (word : List ℕ) (value : ℤ) → reserved word ≡ Some (kinds.Number value) → FitsSigned w32 value
+unfolding reserved table
+reserved_fits word (pos n) e =
+    let small = ltb-true n 2 (found_kind table (map capital word) (kinds.Number (pos n)) refl e) in
+    record { sfits = omega arith }
+reserved_fits word (negsuc n) e = absurd (true≢false (sym (found_kind table (map capital word) (kinds.Number (negsuc n)) refl e)))

@@ -78,16 +78,25 @@ fn capital(b: u8) -> u8
 fn look_up(word: &[u8]) -> Option<TokenKind>
     ensures { result ≡ look_up table word.now }
 {
-    match word.len() {
-        2 => look_up_2(word),
-        3 => look_up_3(word),
-        4 => look_up_4(word),
-        5 => look_up_5(word),
-        6 => look_up_6(word),
-        7 => look_up_7(word),
-        8 => look_up_8(word),
-        9 => look_up_9(word),
-        _ => None,
+    let count = word.len();
+    if count == 2 {
+        look_up_2(word)
+    } else if count == 3 {
+        look_up_3(word)
+    } else if count == 4 {
+        look_up_4(word)
+    } else if count == 5 {
+        look_up_5(word)
+    } else if count == 6 {
+        look_up_6(word)
+    } else if count == 7 {
+        look_up_7(word)
+    } else if count == 8 {
+        look_up_8(word)
+    } else if count == 9 {
+        look_up_9(word)
+    } else {
+        None
     }
 }
 

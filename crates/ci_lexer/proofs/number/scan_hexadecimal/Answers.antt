@@ -1,18 +1,19 @@
-use Rattle.std.proofs.Common.{rules, ◌≡◌, ◌+◌, ◌^◌, ◌<◌, ◌≤◌, ◌≢◌, false, IfOk, IfErr, length, true, MatchOption, ◌++◌, ℕ, ◌-◌, ◌*◌, ◌/◌, ◌%◌, Bool, nat_eq, nat_lt, List, [], ◌∷◌, slice_index_or, slice_set, bit_and, bit_or, Fits, w8, w32, w64, Bor, MutBor}
-use Rattle.ci_lexer.specs.Faults.{FaultAt}
-use Rattle.ci_lexer.specs.Fronts.{FrontAt, hex_start}
-use Rattle.ci_lexer.specs.Leads.{Leads}
-use Rattle.std.specs.Char.{digit_value}
+use Rattle.std.proofs.Common.{◌≡◌, ℕ, ◌+◌, ◌<◌, ◌≤◌, length, take, sym, ap, ◌∙◌, subst₂, MatchOption}
 use Rattle.std.specs.Str.Parse.{digits_value}
-use Rattle.ci_base.specs.Letters.{begins, is_letter}
-use Rattle.ci_base.specs.Numbers.{is_number, number_limit, number_value}
-use Rattle.ci_tree.specs.Shapes.{IsWhole}
+use Rattle.ci_base.specs.Numbers.{number_limit, number_value}
+use Rattle.ci_lexer.proofs.Closing.{IsSplit, hexadecimal_split, split_value, split_limit}
 use Rattle.ci_lexer.proofs.number.scan_hexadecimal.Goals as goal
+use Rattle.ci_lexer.proofs.number.scan_hexadecimal.Goals.{After-split_run}
 
--- src/number.rt:51:5
+split : (c : After-split_run) → IsSplit c.args.rest.now c.split_run.result.0.now c.split_run.result.1.now (take (2 + length c.split_run.result.0.now) c.args.rest.now)
+split c =
+    let run = c.split_run.ensures in
+    hexadecimal_split c.args.rest.now c.split_run.result.0.now c.split_run.result.1.now c.requires.start run.whole run.each run.longest
+
 pub number-requires-clause-longest : goal.number-requires-clause-longest
-number-requires-clause-longest c = ?
+number-requires-clause-longest c = (split (goal.at.number-requires-clause-longest c).After-split_run).longest
 
--- src/number.rt:51:5
 pub number-requires-clause-value : goal.number-requires-clause-value
-number-requires-clause-value c = ?
+number-requires-clause-value c =
+    let is = split (goal.at.number-requires-clause-value c).After-split_run in
+    subst₂ (λ limit value. MatchOption c.value_of-value.result (limit < value) (λ n. (n ≡ value) × (n ≤ limit))) (sym (split_limit is)) (sym (split_value is)) c.value_of-value.ensures

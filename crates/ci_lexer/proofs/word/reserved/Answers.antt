@@ -1,18 +1,13 @@
-use Rattle.std.proofs.Common.{rules, ◌≡◌, ◌+◌, ◌<◌, ◌≤◌, ◌≢◌, true, Some, IfOk, IfErr, length, ℕ, ◌-◌, ◌*◌, ◌/◌, ◌%◌, Bool, false, nat_eq, nat_lt, List, [], ◌∷◌, ◌++◌, slice_index_or, slice_set, bit_and, bit_or, Fits, w8, w32, w64, Bor, MutBor}
-use Rattle.ci_lexer.specs.Faults.{FaultAt}
-use Rattle.ci_lexer.specs.Fronts.{FrontAt}
-use Rattle.ci_lexer.specs.Leads.{Leads}
+use Rattle.std.proofs.Common.{map, take, sym, ap, ◌∙◌, take_all, length}
 use Rattle.ci_base.specs.Letters.{capital}
-use Rattle.ci_base.specs.Names.{is_name}
-use Rattle.ci_tree.specs.Tokens.{Spells}
 use Rattle.ci_tree.specs.Words.{look_up, reserved, table}
-use Rattle.ci_lexer.specs.Lengths.{words_of}
+use Rattle.ci_lexer.proofs.Words.{none_long}
 use Rattle.ci_lexer.proofs.word.reserved.Goals as goal
 
--- src/word.rt:60:9
 pub returns-then-word-gt9 : goal.returns-then-word-gt9
-returns-then-word-gt9 c = ?
+returns-then-word-gt9 c = sym (none_long c.args.word.now c.if-word-gt9.true)
 
--- src/word.rt:56:1
 pub returns : goal.returns
-returns c = ?
+unfolding reserved
+returns c =
+    c.look_up.ensures ∙ ap (look_up table) (c.as_slice.ensures.value ∙ c.loop-b.invariant ∙ ap (map capital) (take_all c.loop-b.b-index c.args.word.now c.loop-b-test.false))
