@@ -8,3 +8,4 @@ pub mod Wholes
 pub mod Words
 pub mod Closing
 pub mod Reading
+pub mod Unique

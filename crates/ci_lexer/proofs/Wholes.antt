@@ -189,3 +189,10 @@ sign_whole g b s rest e is longest = record {
       let found = follows_lead b (s ++ more) Other is (subst Shape whole shape) in
       longest found.0 more behind f (whole ∙ found.1);
 }
+
+-- an open comment goes to the end
+pub opened_whole : (s : List ℕ) → IsOpenComment s → IsWhole s []
+opened_whole s is = record { one = opened s is; longest = λ more behind e shape. by_list more behind e } where
+  by_list : (more behind : List ℕ) → [] ≡ more ++ behind → more ≡ []
+  by_list [] behind e = refl
+  by_list (b ∷ more) behind e = absurd cc

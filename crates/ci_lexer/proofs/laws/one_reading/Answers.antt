@@ -1,6 +1,6 @@
 use Rattle.ci_lexer.proofs.Leading.{follows_lead}
 use Rattle.ci_lexer.proofs.Items.{compare}
-use Rattle.ci_lexer.proofs.Steps.{white_step}
+use Rattle.ci_lexer.proofs.Unique.{one_whole}
 use Rattle.ci_lexer.proofs.Wholes.{sign_whole}
 use Rattle.ci_lexer.proofs.Runs.{stops}
 use Rattle.ci_lexer.proofs.laws.one_reading.Goals as goal
