@@ -32,11 +32,11 @@ closed_here (a ∷ b ∷ s) h =
     ([], refl, ap₂ (λ x y. x ∷ y ∷ s) (eqb-true a 42 parts.0) (eqb-true b 47 parts.1) ∙ ap (λ l. 42 ∷ 47 ∷ l) (sym (take_rest (a ∷ b ∷ s) 2)))
 
 -- no `*/` at the front: the same behind the first byte
-has_close-step : (a : ℕ) (s : List ℕ) → closes (a ∷ s) ≡ false → has_close s ≡ has_close (a ∷ s)
+pub has_close-step : (a : ℕ) (s : List ℕ) → closes (a ∷ s) ≡ false → has_close s ≡ has_close (a ∷ s)
 has_close-step a [] h = refl
 has_close-step a (b ∷ s) h = sym (ap (λ t. t || has_close (b ∷ s)) h)
 
-closed_step : (a : ℕ) (s rest : List ℕ) → closes (a ∷ s) ≡ false → IsClosed s rest → IsClosed (a ∷ s) rest
+pub closed_step : (a : ℕ) (s rest : List ℕ) → closes (a ∷ s) ≡ false → IsClosed s rest → IsClosed (a ∷ s) rest
 closed_step a s rest h ([], none, e) = (a ∷ [], refl, ap (λ l. a ∷ l) e)
 closed_step a s rest h (b ∷ body, none, e) =
     let first : closes (a ∷ b ∷ body) ≡ false = sym (ap (λ l. closes (a ∷ l)) e) ∙ h in
@@ -87,7 +87,7 @@ pub record IsSplit (s digits rest spelled : List ℕ) : Type 0 where
   pub longest : IsWhole spelled rest
   pub tail : drop 2 spelled ≡ digits
 
-split_at : (z x : ℕ) (t digits rest : List ℕ) → hex_start (z ∷ x ∷ t) ≡ true → t ≡ digits ++ rest → list_all is_hex_digit digits ≡ true → begins is_hex_digit rest ≡ false → IsSplit (z ∷ x ∷ t) digits rest (z ∷ x ∷ digits)
+pub split_at : (z x : ℕ) (t digits rest : List ℕ) → hex_start (z ∷ x ∷ t) ≡ true → t ≡ digits ++ rest → list_all is_hex_digit digits ≡ true → begins is_hex_digit rest ≡ false → IsSplit (z ∷ x ∷ t) digits rest (z ∷ x ∷ digits)
 split_at z x t digits rest start e all stop =
     let parts = and_parts (z == 48 && (x == 120 || x == 88)) (begins is_hex_digit t) start in
     let first = begins_run is_hex_digit is_hex_digit t digits rest e parts.1 (λ b h. h) stop in

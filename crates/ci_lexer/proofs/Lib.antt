@@ -9,3 +9,4 @@ pub mod Words
 pub mod Closing
 pub mod Reading
 pub mod Unique
+pub mod Existence
