@@ -13,6 +13,9 @@ use crate::run::{Class, split_run};
 use crate::step::{Front, Step};
 use ci_tree::{Sign, TokenKind};
 
+/// The most `#` that a token may have.
+const MOST_HASHES: usize = 255;
+
 /// One or more `#`.
 pub fn scan_hashes(rest: &[u8], at: u32) -> Result<Step<'_>, LexFault>
     requires lead { Leads Lead.Hash rest.now }
@@ -21,7 +24,7 @@ pub fn scan_hashes(rest: &[u8], at: u32) -> Result<Step<'_>, LexFault>
     ensures err { IfErr result (λ fault. fault ≢ LexFault.Memory → FaultAt (at + length rest.now) rest.now fault) }
 {
     let (hashes, behind) = split_run(rest, Class::Hash);
-    if hashes.len() > 255 {
+    if hashes.len() > MOST_HASHES {
         return Err(LexFault::TextTooLong { at });
     }
     Ok(Step {

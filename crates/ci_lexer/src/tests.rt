@@ -2,6 +2,7 @@
 ghost use Rattle.std.specs.Prelude.{◌≤◌, length};
 
 use crate::{LexFault, lex};
+use ci_base::{Position, place_of};
 use ci_tree::{Keyword, Sign, Token, TokenKind};
 use std::alloc::Global;
 use std::process::Abort;
@@ -395,4 +396,15 @@ fn marks_and_stray_bytes(rt: HostRuntime) -> Result<(), Fail> {
         refuses(&rt, alloc, &[b' ', b], LexFault::StrayByte { at: 1 });
     }
     Ok(())
+}
+
+#[test]
+fn places_of_offsets(rt: HostRuntime) {
+    let source = b"ab\n\r\n\xFFc\n";
+    assert_eq!(rt; place_of(source, 0), Position { line: 1, column: 1 });
+    assert_eq!(rt; place_of(source, 2), Position { line: 1, column: 3 });
+    assert_eq!(rt; place_of(source, 3), Position { line: 2, column: 1 });
+    assert_eq!(rt; place_of(source, 4), Position { line: 2, column: 2 });
+    assert_eq!(rt; place_of(source, 6), Position { line: 3, column: 2 });
+    assert_eq!(rt; place_of(source, 8), Position { line: 4, column: 1 });
 }
