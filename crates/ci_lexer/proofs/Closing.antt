@@ -11,7 +11,8 @@ use Rattle.ci_tree.specs.Comments.{has_close}
 use Rattle.ci_tree.specs.Shapes.{IsWhole}
 use Rattle.ci_lexer.specs.declared.lead.Lead.{Lead}
 use Rattle.ci_lexer.specs.declared.lead.Lead.TheVariants.{Digit, Slash, Quote}
-use Rattle.ci_lexer.specs.Fronts.{IsClosed, closes, hex_start}
+use Rattle.ci_lexer.specs.Comments.{IsClosed, closes}
+use Rattle.ci_lexer.specs.Numbers.{hex_start}
 use Rattle.ci_lexer.specs.Leads.{lead, Leads}
 use Rattle.ci_lexer.proofs.Backs.{begins-lead, is_digit-lead, slash-lead, quote-lead}
 use Rattle.ci_lexer.proofs.Runs.{begins_run, list_all-front}

@@ -7,7 +7,7 @@ use Rattle.std.proofs.lemmas.List.{take_rest}
 use Rattle.ci_base.specs.Letters.{is_hex_digit, is_digit, begins, is_line_end}
 use Rattle.ci_base.specs.Texts.{IsItem, AreItems, BeginsItem, is_plain, escape}
 use Rattle.ci_base.specs.Texts.IsItem.{plain, escaped, hexadecimal}
-use Rattle.ci_lexer.specs.Escapes.{hex_escape}
+use Rattle.ci_lexer.specs.Items.{hex_escape}
 use Rattle.ci_lexer.specs.Faults.{stops_text}
 use Rattle.ci_lexer.proofs.Items.{plain_caret}
 

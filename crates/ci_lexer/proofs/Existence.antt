@@ -24,10 +24,12 @@ use Rattle.ci_lexer.specs.declared.fault.LexFault.{LexFault}
 use Rattle.ci_lexer.specs.declared.fault.LexFault.TheVariants as faults
 use Rattle.ci_lexer.specs.declared.lead.Lead.{Lead}
 use Rattle.ci_lexer.specs.declared.lead.Lead.TheVariants.{Letter, Digit, White, Quote, Hash, Mark, Slash, Other}
-use Rattle.ci_lexer.specs.Escapes.{hex_escape}
+use Rattle.ci_lexer.specs.Items.{hex_escape}
 use Rattle.ci_lexer.specs.Faults.{FaultAt, stops_text}
 use Rattle.ci_lexer.specs.Faults.FaultAt.{open_comment}
-use Rattle.ci_lexer.specs.Fronts.{IsClosed, IsSignAt, closes, hex_start, single_sign, double_sign, double_at}
+use Rattle.ci_lexer.specs.Comments.{IsClosed, closes}
+use Rattle.ci_lexer.specs.Numbers.{hex_start}
+use Rattle.ci_lexer.specs.Signs.{IsSignAt, single_sign, double_sign, double_at}
 use Rattle.ci_lexer.specs.Leads.{lead, Leads}
 use Rattle.ci_lexer.proofs.Items.{no_item, no_item_end, no_item_stop}
 use Rattle.ci_lexer.proofs.Backs.{mark-lead, slash-lead}

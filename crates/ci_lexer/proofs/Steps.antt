@@ -22,7 +22,8 @@ use Rattle.ci_lexer.specs.declared.lead.Lead.{Lead}
 use Rattle.ci_lexer.specs.declared.lead.Lead.TheVariants.{Letter, Digit, White, Quote, Hash, Mark, Slash, Other}
 use Rattle.ci_lexer.specs.Faults.{FaultAt}
 use Rattle.ci_lexer.specs.Faults.FaultAt.{too_many_hashes, name_too_long, stray, run_on, number_too_large}
-use Rattle.ci_lexer.specs.Fronts.{IsClosed, IsSignAt, single_sign, double_sign, double_at}
+use Rattle.ci_lexer.specs.Comments.{IsClosed}
+use Rattle.ci_lexer.specs.Signs.{IsSignAt, single_sign, double_sign, double_at}
 use Rattle.ci_lexer.specs.Leads.{lead, Leads}
 use Rattle.ci_lexer.proofs.Backs.{begins-lead, is_letter-lead, is_digit-lead, is_white-lead, hash-lead, mark-lead, slash-lead, quote-lead}
 use Rattle.ci_lexer.proofs.Runs.{begins_run}

@@ -28,7 +28,7 @@ use Rattle.ci_lexer.specs.declared.fault.LexFault.TheVariants as faults
 use Rattle.ci_lexer.specs.declared.lead.Lead.{Lead}
 use Rattle.ci_lexer.specs.declared.lead.Lead.TheVariants.{Letter, Digit, White, Quote, Hash, Mark, Slash, Other}
 use Rattle.ci_lexer.specs.Faults.{FaultAt, stops_text}
-use Rattle.ci_lexer.specs.Fronts.{single_sign, double_sign, double_at}
+use Rattle.ci_lexer.specs.Signs.{single_sign, double_sign, double_at}
 use Rattle.ci_lexer.specs.Leads.{lead}
 use Rattle.ci_lexer.proofs.Items.{Compared, compare, no_item_quote, no_item_stop}
 use Rattle.ci_lexer.proofs.Leading.{lead-letter, lead-digit, lead-white, lead-hash, lead-quote, lead-mark, lead-slash, number_lead}

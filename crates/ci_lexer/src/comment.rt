@@ -2,7 +2,8 @@
 ghost use Rattle.std.specs.Prelude.{◌≡◌, ◌+◌, ◌≤◌, ◌≢◌, ℕ, List, ◌∷◌, ◌++◌, [], IfOk, IfErr, IfSome, IfNone, length, false};
 ghost use Rattle.ci_tree.specs.Comments.{has_close};
 ghost use Rattle.ci_lexer.specs.Faults.{FaultAt};
-ghost use Rattle.ci_lexer.specs.Fronts.{FrontAt, IsClosed, closes};
+ghost use Rattle.ci_lexer.specs.Comments.{IsClosed, closes};
+ghost use Rattle.ci_lexer.specs.Fronts.{FrontAt};
 ghost use Rattle.ci_lexer.specs.Leads.{Leads};
 
 use crate::fault::LexFault;

@@ -8,7 +8,7 @@ ghost use Rattle.std.specs.Str.Parse.{digits_value};
 ghost use Rattle.ci_base.specs.Letters.{begins, is_letter};
 ghost use Rattle.ci_base.specs.Numbers.{is_number, number_limit, number_value};
 ghost use Rattle.ci_tree.specs.Shapes.{IsWhole};
-ghost use Rattle.ci_lexer.specs.Fronts.{hex_start};
+ghost use Rattle.ci_lexer.specs.Numbers.{hex_start};
 
 use crate::fault::LexFault;
 use crate::lead::{Lead, is_hex_digit, is_letter};

@@ -5,7 +5,7 @@ ghost use Rattle.ci_lexer.specs.Fronts.{FrontAt};
 ghost use Rattle.ci_lexer.specs.Leads.{Leads};
 ghost use Rattle.ci_tree.specs.declared.token.Sign.{Sign};
 ghost use Rattle.ci_tree.specs.Signs.{sign_bytes};
-ghost use Rattle.ci_lexer.specs.Fronts.{IsSignAt, double_at, double_sign, single_sign};
+ghost use Rattle.ci_lexer.specs.Signs.{IsSignAt, double_at, double_sign, single_sign};
 
 use crate::fault::LexFault;
 use crate::lead::Lead;
@@ -77,7 +77,7 @@ fn double_at(first: u8, behind: &[u8]) -> Option<Sign>
 }
 
 /// The sign of two bytes.
-#[tactic(auto, unfolding(crate::specs::Fronts::double_sign))]
+#[tactic(auto, unfolding(crate::specs::Signs::double_sign))]
 fn double(first: u8, second: u8) -> Option<Sign>
     ensures { result ≡ double_sign first second }
 {
@@ -93,7 +93,7 @@ fn double(first: u8, second: u8) -> Option<Sign>
 }
 
 /// The sign of one byte, `/` left out.
-#[tactic(auto, unfolding(crate::specs::Fronts::single_sign))]
+#[tactic(auto, unfolding(crate::specs::Signs::single_sign))]
 fn single(b: u8) -> Option<Sign>
     ensures { result ≡ single_sign b }
 {

@@ -3,9 +3,10 @@ ghost use Rattle.std.specs.Prelude.{◌≡◌, ◌+◌, ◌*◌, ◌<◌, ◌≤
 ghost use Rattle.std.specs.Char.{digit_value};
 ghost use Rattle.ci_base.specs.Letters.{begins, is_hex_digit};
 ghost use Rattle.ci_base.specs.Texts.{escape, is_plain};
-ghost use Rattle.ci_lexer.specs.Escapes.{hex_escape};
+ghost use Rattle.ci_lexer.specs.Items.{hex_escape};
 ghost use Rattle.ci_lexer.specs.Faults.{FaultAt};
-ghost use Rattle.ci_lexer.specs.Fronts.{FrontAt, ItemAt, EndsText};
+ghost use Rattle.ci_lexer.specs.Fronts.{FrontAt};
+ghost use Rattle.ci_lexer.specs.Items.{ItemAt, EndsText};
 ghost use Rattle.ci_lexer.specs.Leads.{Leads};
 use crate::fault::LexFault;
 use crate::lead::{Lead, is_hex_digit};

@@ -1,6 +1,6 @@
 use Rattle.std.proofs.Common.{◌≡◌, ℕ, List, length}
 use Rattle.ci_tree.specs.Comments.{has_close}
-use Rattle.ci_lexer.specs.Fronts.{IsClosed}
+use Rattle.ci_lexer.specs.Comments.{IsClosed}
 use Rattle.ci_lexer.proofs.comment.behind_close.Given as goal
 
 abbrev pub invariant-loop-left : goal.invariant-loop-left
