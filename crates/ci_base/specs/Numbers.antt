@@ -1,5 +1,5 @@
 -- How numbers are spelled, and what they mean.
-use Rattle.std.specs.Prelude.{ℕ, ℤ, pos, Bool, false, ◌&&◌, ◌||◌, List, [], ◌∷◌, ◌==◌, if◌then◌else◌, drop}
+use Rattle.std.specs.Prelude.{ℕ, ℤ, Bool, false, ◌&&◌, ◌||◌, List, ◌∷◌, ◌==◌, if◌then◌else◌, drop}
 use Rattle.std.specs.Int.{int_wrap}
 use Rattle.std.specs.Str.Parse.{digits_value}
 use Rattle.std.proofs.Common.{w32}

@@ -1,5 +1,5 @@
 -- Lines and columns.
-use Rattle.std.specs.Prelude.{ℕ, ◌+◌, List, [], ◌∷◌, take, length, count_by, reverse, take_while, not, ◌==◌}
+use Rattle.std.specs.Prelude.{ℕ, ◌+◌, List, take, length, count_by, reverse, take_while, not, ◌==◌}
 use Rattle.ci_base.specs.declared.position.Position.{Position}
 
 -- the line: 1, and one more for each LF before the offset

@@ -1,5 +1,5 @@
 -- What a lead says of its byte.
-use Rattle.std.proofs.Common.{◌≡◌, ℕ, Bool, true, false, cond, List, [], ◌∷◌, ◌++◌, sym, refl, ap, ◌∙◌, subst, arith, ◌==◌, eqb}
+use Rattle.std.proofs.Common.{◌≡◌, ℕ, Bool, true, false, cond, List, [], ◌∷◌, sym, refl, ◌∙◌, ◌==◌}
 use Rattle.std.proofs.lemmas.Bool.{eqb-true}
 use Rattle.ci_base.specs.Letters.{is_digit, is_letter, is_white, begins}
 use Rattle.ci_tree.specs.Shapes.{is_hash}
@@ -26,14 +26,19 @@ module _ (b : ℕ) where
   -- the leads from a place of the list of tests on
   from_slash : Lead
   from_slash = cond (b == 47) Slash Other
+
   from_mark : Lead
   from_mark = cond (b == 33) Mark from_slash
+
   from_hash : Lead
   from_hash = cond (b == 35) Hash from_mark
+
   from_quote : Lead
   from_quote = cond (b == 34) Quote from_hash
+
   from_white : Lead
   from_white = cond (is_white b) White from_quote
+
   from_digit : Lead
   from_digit = cond (is_digit b) Digit from_white
 

@@ -1,21 +1,19 @@
 -- Where a comment is closed, and where a hexadecimal number is split.
-use Rattle.std.proofs.Common.{◌≡◌, ℕ, ◌+◌, ◌-◌, ◌*◌, ◌^◌, ◌<◌, ◌≤◌, Bool, true, false, ◌&&◌, ◌||◌, List, [], ◌∷◌, ◌++◌, length, take, drop, get_or, sym, refl, ap, ap₂, ◌∙◌, subst, arith, ◌==◌, suc, length-append, append_assoc, take_at, cond, inl, inr, ⊎_elim, true≢false, mul-le-mul, le-mul_of_pos_right, le_trans, lt_of_lt_of_le}
+use Rattle.std.proofs.Common.{◌≡◌, ℕ, ◌+◌, ◌-◌, ◌*◌, ◌^◌, ◌<◌, ◌≤◌, true, false, ◌&&◌, ◌||◌, List, [], ◌∷◌, ◌++◌, length, take, drop, get_or, sym, refl, ap, ap₂, ◌∙◌, subst, arith, ◌==◌, suc, append_assoc, take_at, cond, true≢false, mul-le-mul, le-mul_of_pos_right}
 use Rattle.std.specs.List.{list_all}
-use Rattle.std.specs.Char.{digit_value}
 use Rattle.std.specs.Str.Parse.{digits_value}
-use Rattle.std.proofs.lemmas.Bool.{and_parts, and_from, or_right, or_left, both_ways, eqb-true, false_from_ne_true}
+use Rattle.std.proofs.lemmas.Bool.{and_parts, and_from, or_left, both_ways, eqb-true, false_from_ne_true}
 use Rattle.std.proofs.lemmas.List.{take_rest}
 use Rattle.ci_base.specs.Letters.{is_hex_digit, is_digit, begins, is_run}
 use Rattle.ci_base.specs.Numbers.{is_decimal, is_hexadecimal, is_number, number_value, number_limit}
 use Rattle.ci_tree.specs.Comments.{has_close}
 use Rattle.ci_tree.specs.Shapes.{IsWhole}
-use Rattle.ci_lexer.specs.declared.lead.Lead.{Lead}
 use Rattle.ci_lexer.specs.declared.lead.Lead.TheVariants.{Digit, Slash, Quote}
 use Rattle.ci_lexer.specs.Comments.{IsClosed, closes}
 use Rattle.ci_lexer.specs.Numbers.{hex_start}
-use Rattle.ci_lexer.specs.Leads.{lead, Leads}
+use Rattle.ci_lexer.specs.Leads.{Leads}
 use Rattle.ci_lexer.proofs.Backs.{begins-lead, is_digit-lead, slash-lead, quote-lead}
-use Rattle.ci_lexer.proofs.Runs.{begins_run, list_all-front}
+use Rattle.ci_lexer.proofs.Runs.{begins_run}
 use Rattle.ci_lexer.proofs.Wholes.{decimal_whole, hexadecimal_whole, hex_start-hexadecimal, text_whole}
 use Rattle.ci_base.specs.Texts.{AreItems, BeginsItem}
 use Rattle.ci_tree.specs.Tokens.{TokenAt}
@@ -55,9 +53,9 @@ slash_two [] b leads h = absurd leads
 slash_two (a ∷ s) b leads h =
     let same : take (length (a ∷ s) - 1) s ≡ s = take_rest (a ∷ s) 1 in
     ap₂ (λ x l. x ∷ l) (slash-lead a leads) (second s b (subst (λ l. begins (λ c. c == b) l ≡ true) same h) ∙ ap (λ l. b ∷ take (length l - 1) (drop 1 l)) (sym same)) where
-  second : (s : List ℕ) (b : ℕ) → begins (λ c. c == b) s ≡ true → s ≡ b ∷ take (length s - 1) (drop 1 s)
-  second [] b h = absurd (true≢false (sym h))
-  second (c ∷ s) b h = ap₂ (λ x l. x ∷ l) (eqb-true c b h) (sym (take_rest (c ∷ s) 1))
+      second : (s : List ℕ) (b : ℕ) → begins (λ c. c == b) s ≡ true → s ≡ b ∷ take (length s - 1) (drop 1 s)
+      second [] b h = absurd (true≢false (sym h))
+      second (c ∷ s) b h = ap₂ (λ x l. x ∷ l) (eqb-true c b h) (sym (take_rest (c ∷ s) 1))
 
 pub slash_alone : (s : List ℕ) → begins (λ c. c == 47) s ≡ false → begins (λ c. c == 42) s ≡ false → begins (λ b. b == 47 || b == 42) s ≡ false
 slash_alone [] h k = refl
@@ -107,7 +105,7 @@ hexadecimal_split (z ∷ x ∷ t) digits rest start e all stop =
     let behind : t ≡ digits ++ rest = sym (take_rest (z ∷ x ∷ t) 2) ∙ e in
     let count : 2 + length digits ≡ suc (suc (length digits)) = omega arith in
     let spelled : take (2 + length digits) (z ∷ x ∷ t) ≡ z ∷ x ∷ digits =
-        ap (λ n. take n (z ∷ x ∷ t)) count ∙ ap (λ l. z ∷ x ∷ take (length digits) l) behind ∙ ap (λ l. z ∷ x ∷ l) (take_at digits rest (length digits) refl) in
+    ap (λ n. take n (z ∷ x ∷ t)) count ∙ ap (λ l. z ∷ x ∷ take (length digits) l) behind ∙ ap (λ l. z ∷ x ∷ l) (take_at digits rest (length digits) refl) in
     subst (IsSplit (z ∷ x ∷ t) digits rest) (sym spelled) (split_at z x t digits rest start behind all stop)
 
 -- what the value of digits is after one more

@@ -1,11 +1,11 @@
 -- Escapes at the front.
-use Rattle.std.proofs.Common.{◌≡◌, ℕ, ◌+◌, ◌-◌, ◌*◌, ◌<◌, ◌≤◌, Bool, true, false, ◌&&◌, ◌||◌, List, [], ◌∷◌, ◌++◌, length, take, drop, get_or, Some, None, sym, refl, ap, ap₂, ◌∙◌, subst, arith, ◌==◌, suc}
+use Rattle.std.proofs.Common.{◌≡◌, ℕ, ◌+◌, ◌-◌, ◌*◌, ◌<◌, true, false, ◌&&◌, List, [], ◌∷◌, ◌++◌, length, take, drop, get_or, Some, None, sym, ap, ap₂, ◌∙◌, subst, arith, ◌==◌}
 use Rattle.std.specs.Char.{digit_value}
 use Rattle.std.proofs.lemmas.Bool.{and_parts, and_from, both_ways, true≢false, eqb-true}
 use Rattle.std.proofs.lemmas.Bool.Decides.{nat_tests}
 use Rattle.std.proofs.lemmas.List.{take_rest}
 use Rattle.ci_base.specs.Letters.{is_hex_digit, is_digit, begins, is_line_end}
-use Rattle.ci_base.specs.Texts.{IsItem, AreItems, BeginsItem, is_plain, escape}
+use Rattle.ci_base.specs.Texts.{IsItem, BeginsItem, is_plain, escape}
 use Rattle.ci_base.specs.Texts.IsItem.{plain, escaped, hexadecimal}
 use Rattle.ci_lexer.specs.Items.{hex_escape}
 use Rattle.ci_lexer.specs.Faults.{stops_text}
@@ -46,7 +46,7 @@ hex_at (c ∷ z ∷ x ∷ high ∷ low ∷ s) is =
     let xs = and_parts (c == 94 && z == 48) (x == 120) highs.0 in
     let zs = and_parts (c == 94) (z == 48) xs.0 in
     let three : c ∷ z ∷ x ∷ high ∷ low ∷ s ≡ 94 ∷ 48 ∷ 120 ∷ high ∷ low ∷ s =
-        ap (λ y. y ∷ z ∷ x ∷ high ∷ low ∷ s) (eqb-true c 94 zs.0) ∙ ap₂ (λ y w. 94 ∷ y ∷ w ∷ high ∷ low ∷ s) (eqb-true z 48 zs.1) (eqb-true x 120 xs.1) in
+    ap (λ y. y ∷ z ∷ x ∷ high ∷ low ∷ s) (eqb-true c 94 zs.0) ∙ ap₂ (λ y w. 94 ∷ y ∷ w ∷ high ∷ low ∷ s) (eqb-true z 48 zs.1) (eqb-true x 120 xs.1) in
     (94 ∷ 48 ∷ 120 ∷ high ∷ low ∷ [], hexadecimal high low highs.1 lows.1, three ∙ ap (λ l. 94 ∷ 48 ∷ 120 ∷ high ∷ low ∷ l) (sym (take_rest (c ∷ z ∷ x ∷ high ∷ low ∷ s) 5)))
 
 -- no item begins with a caret that begins neither

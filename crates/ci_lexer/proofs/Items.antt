@@ -1,8 +1,8 @@
 -- Items of texts: a text has one cut into items.
-use Rattle.std.proofs.Common.{◌≡◌, ℕ, ◌+◌, ◌*◌, ◌<◌, ◌≤◌, Bool, true, false, ◌&&◌, ◌||◌, not, List, [], ◌∷◌, ◌++◌, length, Option, Some, None, sym, refl, ap, ap₂, ◌∙◌, subst, inl, inr, ◌⊎◌, ⊎_elim, arith, append_assoc, append-nil, get_or, drop, ◌==◌, IsTrue}
+use Rattle.std.proofs.Common.{◌≡◌, ℕ, ◌+◌, ◌*◌, ◌<◌, true, false, List, [], ◌∷◌, ◌++◌, length, Some, sym, refl, ap, ap₂, ◌∙◌, subst, inl, inr, ◌⊎◌, arith, append_assoc, append-nil, get_or, drop}
 use Rattle.std.specs.Char.{digit_value}
-use Rattle.std.proofs.lemmas.Bool.{and_parts, both_ways, true≢false}
-use Rattle.ci_base.specs.Letters.{is_hex_digit, is_line_end, is_digit}
+use Rattle.std.proofs.lemmas.Bool.{both_ways, true≢false}
+use Rattle.ci_base.specs.Letters.{is_line_end}
 use Rattle.ci_base.specs.Texts.{IsItem, AreItems, BeginsItem, is_plain, escape}
 use Rattle.std.proofs.lemmas.Bool.Decides.{nat_tests}
 use Rattle.ci_lexer.specs.Faults.{stops_text}
@@ -107,7 +107,7 @@ no_item_stop (b ∷ rest) stop begins = no_item b rest (grind (arith, nat_tests)
 pub one_cut : (items value rest others other behind : List ℕ) → AreItems items value → AreItems others other → items ++ rest ≡ others ++ behind → (BeginsItem rest → ⊥) → (BeginsItem behind → ⊥) → (value ≡ other) × (rest ≡ behind)
 one_cut items value rest others other behind are are2 e stop stop2 =
     by_compared (compare items value rest others other behind are are2 e) where
-  by_compared : Compared value rest other behind → (value ≡ other) × (rest ≡ behind)
-  by_compared (inl same) = same
-  by_compared (inr (inl goes_on)) = absurd (stop goes_on.1)
-  by_compared (inr (inr goes_on)) = absurd (stop2 goes_on.1)
+      by_compared : Compared value rest other behind → (value ≡ other) × (rest ≡ behind)
+      by_compared (inl same) = same
+      by_compared (inr (inl goes_on)) = absurd (stop goes_on.1)
+      by_compared (inr (inr goes_on)) = absurd (stop2 goes_on.1)

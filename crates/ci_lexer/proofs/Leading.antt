@@ -1,15 +1,15 @@
 -- What the first byte tells of the bytes behind it.
-use Rattle.std.proofs.Common.{◌≡◌, ℕ, ◌+◌, ◌<◌, ◌≤◌, Bool, true, false, ◌&&◌, ◌||◌, not, cond, List, [], ◌∷◌, ◌++◌, length, sym, refl, ap, ◌∙◌, subst, subst₂, get_or, drop, true≢false, inl, inr, ◌⊎◌, ⊎_elim, arith, nat_le, ◌==◌, IsTrue}
+use Rattle.std.proofs.Common.{◌≡◌, ℕ, true, false, ◌&&◌, ◌||◌, List, [], ◌∷◌, ◌++◌, sym, refl, ap, ◌∙◌, subst, subst₂, get_or, drop, true≢false, inl, inr, ◌⊎◌, ⊎_elim, arith, ◌==◌}
 use Rattle.std.specs.List.{list_all}
-use Rattle.std.proofs.lemmas.Bool.{and_parts, or_cases, eqb-true, both_ways, cases_Bool}
+use Rattle.std.proofs.lemmas.Bool.{and_parts, or_cases, eqb-true}
 use Rattle.std.proofs.lemmas.Bool.Decides.{nat_tests}
-use Rattle.ci_base.specs.Letters.{is_digit, is_letter, is_white, is_capital, is_small, is_name_byte, is_hex_digit, begins, is_run}
+use Rattle.ci_base.specs.Letters.{is_digit, is_letter, is_white, is_capital, is_small, is_name_byte, is_hex_digit, is_run}
 use Rattle.ci_base.specs.Names.{is_name}
 use Rattle.ci_base.specs.Numbers.{is_decimal, is_hexadecimal, is_number}
-use Rattle.ci_base.specs.Texts.{AreItems, IsText}
+use Rattle.ci_base.specs.Texts.{AreItems}
 use Rattle.ci_tree.specs.declared.token.Sign.{Sign}
 use Rattle.ci_tree.specs.declared.token.Sign.TheVariants.{LeftParen, RightParen, LeftBracket, RightBracket, Comma, Semicolon, Colon, Equal, Unequal, Less, Greater, AtMost, AtLeast, Plus, Minus, Star, Slash as the_slash}
-use Rattle.ci_tree.specs.Comments.{IsBlank, IsOpenComment, has_close, is_inline}
+use Rattle.ci_tree.specs.Comments.{IsBlank, has_close, is_inline}
 use Rattle.ci_tree.specs.Comments.IsBlank.{white, marked, slashed, enclosed}
 use Rattle.ci_tree.specs.Shapes.{Shape, is_hash}
 use Rattle.ci_tree.specs.Shapes.Shape.{name, number, text, hashes, sign, blank, opened}
@@ -82,9 +82,9 @@ pub follows_number : (b : ℕ) (s : List ℕ) → is_number (b ∷ s) ≡ true �
 follows_number b s h =
     ⊎_elim
     (λ decimal.
-        let parts = and_parts (is_digit b) (is_digit b && list_all is_digit s) decimal in
-        let all = and_parts (is_digit b) (list_all is_digit s) parts.1 in
-        subst (λ l. Follows l b s) (sym (lead-digit b parts.0)) (inl all.1))
+    let parts = and_parts (is_digit b) (is_digit b && list_all is_digit s) decimal in
+    let all = and_parts (is_digit b) (list_all is_digit s) parts.1 in
+    subst (λ l. Follows l b s) (sym (lead-digit b parts.0)) (inl all.1))
     (λ hexadecimal. subst (λ l. Follows l b s) (sym (ap lead (hex_first b s hexadecimal) ∙ lead-zero)) (inr hexadecimal))
     (or_cases (is_decimal (b ∷ s)) (is_hexadecimal (b ∷ s)) h)
 

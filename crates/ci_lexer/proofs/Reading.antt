@@ -1,20 +1,17 @@
 -- Readings of a source: one more step, and what they keep.
-use Rattle.std.proofs.Common.{◌≡◌, ℕ, ◌+◌, ◌-◌, ◌<◌, ◌≤◌, Bool, true, false, List, [], ◌∷◌, ◌++◌, length, sym, refl, ap, ◌∙◌, subst, arith, length-append, append-nil, inl, inr, ◌⊎◌, FitsSigned, pos, w32, ℤ, true≢false, Some}
+use Rattle.std.proofs.Common.{◌≡◌, ℕ, ◌+◌, ◌<◌, ◌≤◌, true, List, [], ◌∷◌, ◌++◌, length, sym, refl, ap, ◌∙◌, subst, arith, length-append, append-nil, inl, inr, FitsSigned, pos, w32, true≢false}
 use Rattle.std.proofs.lemmas.Int.{SFits-int_wrap}
 use Rattle.std.proofs.lemmas.Bool.{cond_both}
-use Rattle.ci_base.specs.Letters.{is_run, begins, is_white}
+use Rattle.ci_base.specs.Letters.{is_run, is_white}
 use Rattle.ci_base.specs.Names.{is_name}
-use Rattle.ci_base.specs.Numbers.{is_number, number_value, number_limit, wrap}
+use Rattle.ci_base.specs.Numbers.{is_number, number_value}
 use Rattle.ci_tree.specs.declared.token.Token.{Token}
 use Rattle.ci_tree.specs.declared.token.TokenKind.{TokenKind}
 use Rattle.ci_tree.specs.declared.token.TokenKind.TheVariants as kinds
-use Rattle.ci_tree.specs.declared.token.Sign.{Sign}
-use Rattle.ci_tree.specs.Comments.{IsBlank}
 use Rattle.ci_tree.specs.Comments.IsBlank.{white, marked, slashed, enclosed}
 use Rattle.ci_tree.specs.Shapes.{Shape, IsWhole, is_hash}
 use Rattle.ci_tree.specs.Shapes.Shape.{name, number, text, hashes, sign, blank, opened}
-use Rattle.ci_tree.specs.Signs.{sign_bytes}
-use Rattle.ci_tree.specs.Tokens.{BlankAt, TokenAt, Reads, Spells, IsKept, AreKept, after_mark, tokens}
+use Rattle.ci_tree.specs.Tokens.{BlankAt, TokenAt, Reads, Spells, IsKept, AreKept, after_mark}
 use Rattle.ci_tree.specs.Tokens.Reads.{here as no_more, blank as blank_first, token as token_first}
 use Rattle.ci_lexer.specs.declared.step.Front.{Front}
 use Rattle.ci_lexer.specs.declared.step.Front.TheVariants as fronts
@@ -92,8 +89,7 @@ read_kept size low s _ rest (blank_first _ behind ts _ first more) within short 
     let less = shorter s first.spelled behind first.whole first.longest in
     read_kept size low behind ts rest more (omega arith) short
 read_kept size low s _ rest (token_first _ behind t ts _ first place more) within short =
-    let less = shorter s first.spelled behind first.whole first.longest in
-    (
+    let less = shorter s first.spelled behind first.whole first.longest in (
       spells_kept t.what first.spelled first.token (shape_some first.spelled first.longest.one),
       omega (arith, place),
       omega (arith, place),

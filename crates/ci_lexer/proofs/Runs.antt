@@ -1,9 +1,9 @@
 -- Runs: where they stop.
-use Rattle.std.proofs.Common.{◌≡◌, ℕ, Bool, true, false, ◌&&◌, List, [], ◌∷◌, ◌++◌, sym, refl, ap, ◌∙◌, subst, append_assoc}
+use Rattle.std.proofs.Common.{◌≡◌, ℕ, Bool, true, false, List, [], ◌∷◌, ◌++◌, sym, refl, ap, ◌∙◌}
 use Rattle.std.specs.List.{list_all}
 use Rattle.std.proofs.lemmas.Bool.{and_parts, and_from, both_ways}
 use Rattle.std.proofs.lemmas.List.Folds.{list_all-append}
-use Rattle.ci_base.specs.Letters.{begins, is_run}
+use Rattle.ci_base.specs.Letters.{begins}
 
 -- behind a run that is as long as possible nothing more of it stands
 pub stops : (p : ℕ → Bool) (s more behind rest : List ℕ) → rest ≡ more ++ behind → begins p rest ≡ false → list_all p (s ++ more) ≡ true → more ≡ []

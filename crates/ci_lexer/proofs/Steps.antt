@@ -1,16 +1,16 @@
 -- From what is at the front to the step that it makes.
-use Rattle.std.proofs.Common.{◌≡◌, ℕ, ◌+◌, ◌-◌, ◌<◌, ◌≤◌, Bool, true, false, ◌&&◌, ◌||◌, not, List, [], ◌∷◌, ◌++◌, length, take, drop, get_or, sym, refl, ap, ap₂, ◌∙◌, subst, subst₂, true≢false, inl, inr, ◌⊎◌, ⊎_elim, arith, ◌==◌, append_assoc, append-nil, pos, w32, to_z, length-append, Some, None, Option, cond, suc, ◌^◌, ℤ, mod-eq_of_lt, lt_of_le_of_lt}
+use Rattle.std.proofs.Common.{◌≡◌, ℕ, ◌+◌, ◌-◌, ◌<◌, ◌≤◌, Bool, true, false, ◌&&◌, ◌||◌, List, [], ◌∷◌, ◌++◌, length, take, drop, get_or, sym, refl, ap, ap₂, ◌∙◌, subst, subst₂, true≢false, inl, inr, ◌⊎◌, ⊎_elim, arith, ◌==◌, append_assoc, pos, w32, to_z, length-append, Some, None, Option, cond, suc, ◌^◌, ℤ, mod-eq_of_lt, lt_of_le_of_lt}
 use Rattle.std.specs.List.{list_all}
 use Rattle.std.specs.Int.{int_wrap}
-use Rattle.std.proofs.lemmas.Bool.{and_parts, and_from, or_from, or_left, or_right, eqb-true, both_ways}
+use Rattle.std.proofs.lemmas.Bool.{and_parts, and_from, or_left, eqb-true, both_ways}
 use Rattle.std.proofs.lemmas.List.{take_rest, nil_from_length}
-use Rattle.ci_base.specs.Letters.{is_digit, is_letter, is_white, is_name_byte, is_hex_digit, is_capital, is_small, begins, is_run}
+use Rattle.ci_base.specs.Letters.{is_digit, is_letter, is_white, is_name_byte, is_capital, is_small, begins, is_run}
 use Rattle.ci_base.specs.Names.{is_name}
-use Rattle.ci_base.specs.Numbers.{is_decimal, is_hexadecimal, is_number, number_value, number_limit, wrap}
+use Rattle.ci_base.specs.Numbers.{is_hexadecimal, is_number, number_value, number_limit, wrap}
 use Rattle.ci_tree.specs.declared.token.Sign.{Sign}
 use Rattle.ci_tree.specs.declared.token.Sign.TheVariants.{Slash as the_slash}
 use Rattle.ci_tree.specs.declared.token.TokenKind.TheVariants as kinds
-use Rattle.ci_tree.specs.Comments.{IsBlank, has_close, is_inline}
+use Rattle.ci_tree.specs.Comments.{is_inline}
 use Rattle.ci_tree.specs.Comments.IsBlank.{white, marked, slashed, enclosed}
 use Rattle.ci_tree.specs.Shapes.{IsWhole, is_hash}
 use Rattle.ci_tree.specs.Signs.{sign_bytes}
@@ -19,13 +19,13 @@ use Rattle.ci_tree.specs.declared.token.Sign.TheVariants as signs
 use Rattle.ci_tree.specs.Tokens.{BlankAt, TokenAt, Spells}
 use Rattle.ci_lexer.specs.declared.fault.LexFault.TheVariants.{StrayByte, TextTooLong, NameTooLong, NumberTooLarge}
 use Rattle.ci_lexer.specs.declared.lead.Lead.{Lead}
-use Rattle.ci_lexer.specs.declared.lead.Lead.TheVariants.{Letter, Digit, White, Quote, Hash, Mark, Slash, Other}
+use Rattle.ci_lexer.specs.declared.lead.Lead.TheVariants.{Letter, Digit, White, Hash, Mark, Other}
 use Rattle.ci_lexer.specs.Faults.{FaultAt}
 use Rattle.ci_lexer.specs.Faults.FaultAt.{too_many_hashes, name_too_long, stray, run_on, number_too_large}
 use Rattle.ci_lexer.specs.Comments.{IsClosed}
 use Rattle.ci_lexer.specs.Signs.{IsSignAt, single_sign, double_sign, double_at}
 use Rattle.ci_lexer.specs.Leads.{lead, Leads}
-use Rattle.ci_lexer.proofs.Backs.{begins-lead, is_letter-lead, is_digit-lead, is_white-lead, hash-lead, mark-lead, slash-lead, quote-lead}
+use Rattle.ci_lexer.proofs.Backs.{begins-lead, is_letter-lead, is_white-lead, hash-lead, mark-lead}
 use Rattle.ci_lexer.proofs.Runs.{begins_run}
 use Rattle.ci_lexer.proofs.Wholes.{white_whole, hash_whole, mark_whole, slashed_whole, enclosed_whole, slash_whole, word_whole, sign_whole}
 use Rattle.ci_lexer.proofs.Leading.{follows_lead, number_lead}

@@ -1,11 +1,11 @@
 -- Each source is read in one way.
-use Rattle.std.proofs.Common.{◌≡◌, ℕ, ◌+◌, ◌-◌, ◌<◌, ◌≤◌, Bool, true, false, cond, ◌&&◌, ◌||◌, List, [], ◌∷◌, ◌++◌, length, get_or, drop, Option, Some, None, unwrap_or, sym, refl, ap, ap₂, ◌∙◌, subst, subst₂, arith, append-nil, append_assoc, length-append, inl, inr, ◌⊎◌, ⊎_elim, pos, ℤ, true≢false, eqb, leb, ◌==◌}
+use Rattle.std.proofs.Common.{◌≡◌, ℕ, ◌+◌, ◌-◌, ◌<◌, ◌≤◌, Bool, true, false, cond, ◌&&◌, List, [], ◌∷◌, ◌++◌, length, get_or, drop, Option, Some, None, unwrap_or, sym, refl, ap, ap₂, ◌∙◌, subst, arith, append-nil, append_assoc, length-append, inl, inr, ◌⊎◌, ⊎_elim, pos, ℤ, true≢false, eqb, leb, ◌==◌}
 use Rattle.std.specs.List.{list_all}
-use Rattle.std.proofs.lemmas.Bool.{and_parts, and_from, both_ways, eqb-true, le-leb, lt-leb, eq-eqb, ne_eqb, cases_Bool, cases_lt, false_from_ne_true}
+use Rattle.std.proofs.lemmas.Bool.{and_parts, and_from, le-leb, lt-leb, eq-eqb, ne_eqb, cases_lt}
 use Rattle.ci_base.specs.Letters.{is_letter, is_name_byte, is_run, begins, is_line_end, is_white, is_digit, is_capital, is_small}
 use Rattle.ci_base.specs.Names.{is_name}
 use Rattle.ci_base.specs.Numbers.{is_number, number_value, number_limit, wrap}
-use Rattle.ci_base.specs.Texts.{AreItems, BeginsItem, IsText}
+use Rattle.ci_base.specs.Texts.{AreItems, BeginsItem}
 use Rattle.ci_tree.specs.declared.token.Token.{Token}
 use Rattle.ci_tree.specs.declared.token.TokenKind.{TokenKind}
 use Rattle.ci_tree.specs.declared.token.TokenKind.TheVariants as kinds
@@ -17,9 +17,8 @@ use Rattle.ci_base.specs.Texts.AreItems.{none as no_items}
 use Rattle.ci_tree.specs.Tokens.Reads.{here as no_more, blank as blank_first, token as token_first}
 use Rattle.ci_lexer.specs.Faults.FaultAt.{stray, run_on, number_too_large, name_too_long, too_many_hashes, open_comment, bad_escape, text_too_long, open_string}
 use Rattle.ci_tree.specs.Comments.IsBlank.{white, marked, slashed, enclosed}
-use Rattle.ci_tree.specs.Longest.{IsLongest}
 use Rattle.ci_tree.specs.Shapes.{Shape, IsWhole, is_hash}
-use Rattle.ci_tree.specs.Shapes.Shape.{name, number, text, hashes, sign, blank, opened}
+use Rattle.ci_tree.specs.Shapes.Shape.{text}
 use Rattle.ci_tree.specs.Signs.{sign_bytes}
 use Rattle.ci_tree.specs.Tokens.{BlankAt, TokenAt, Reads, Spells}
 use Rattle.ci_tree.specs.Words.{reserved}
@@ -28,12 +27,11 @@ use Rattle.ci_lexer.specs.declared.fault.LexFault.TheVariants as faults
 use Rattle.ci_lexer.specs.declared.lead.Lead.{Lead}
 use Rattle.ci_lexer.specs.declared.lead.Lead.TheVariants.{Letter, Digit, White, Quote, Hash, Mark, Slash, Other}
 use Rattle.ci_lexer.specs.Faults.{FaultAt, stops_text}
-use Rattle.ci_lexer.specs.Signs.{single_sign, double_sign, double_at}
+use Rattle.ci_lexer.specs.Signs.{single_sign, double_sign}
 use Rattle.ci_lexer.specs.Leads.{lead}
 use Rattle.ci_lexer.proofs.Items.{Compared, compare, no_item_quote, no_item_stop}
-use Rattle.ci_lexer.proofs.Leading.{lead-letter, lead-digit, lead-white, lead-hash, lead-quote, lead-mark, lead-slash, number_lead}
-use Rattle.ci_lexer.proofs.Reading.{shape_some, shorter}
-use Rattle.ci_lexer.proofs.Steps.{sign_cons}
+use Rattle.ci_lexer.proofs.Leading.{lead-letter, lead-white, lead-hash, lead-quote, lead-mark, lead-slash, number_lead}
+use Rattle.ci_lexer.proofs.Reading.{shape_some}
 use Rattle.ci_lexer.proofs.Wholes.{has_close-append, opened_whole}
 use Rattle.ci_lexer.proofs.Words.{none_long}
 
@@ -112,7 +110,9 @@ one_what (b ∷ s) what other (kind, unlike, is) (kind2, unlike2, is2) =
 name_so : (s : List ℕ) (k : TokenKind) → is_name s ≡ true → length s ≤ 64 → unwrap_or (reserved s) (kinds.Name s) ≡ k → IsSo (is_token k) s
 name_so [] k is short e = absurd (true≢false (sym is))
 name_so (b ∷ s) k is short e = (
-  Letter, λ h. cc, (
+  Letter,
+  λ h. cc,
+  (
     lead-letter b (and_parts (is_letter b) (list_all is_name_byte (b ∷ s)) is).0,
     ap (λ t. cond t (is_token (unwrap_or (reserved (b ∷ s)) (kinds.Name (b ∷ s)))) is_long) (le-leb (length (b ∷ s)) 64 short) ∙ ap is_token e,
   ),
@@ -121,7 +121,9 @@ name_so (b ∷ s) k is short e = (
 long_so : (s : List ℕ) → is_name s ≡ true → 64 < length s → IsSo is_long s
 long_so [] is long = absurd (true≢false (sym is))
 long_so (b ∷ s) is long = (
-  Letter, λ h. cc, (
+  Letter,
+  λ h. cc,
+  (
     lead-letter b (and_parts (is_letter b) (list_all is_name_byte (b ∷ s)) is).0,
     ap (λ t. cond t (is_token (unwrap_or (reserved (b ∷ s)) (kinds.Name (b ∷ s)))) is_long) (lt-leb (length (b ∷ s)) 64 long),
   ),
@@ -134,7 +136,9 @@ word_short s k e = ⊎_elim (λ long. let none = none_long s long in absurd cc) 
 number_so : (s : List ℕ) → is_number s ≡ true → number_value s ≤ number_limit s → IsSo (is_token (kinds.Number (wrap (pos (number_value s))))) s
 number_so [] is fits = absurd (true≢false (sym is))
 number_so (b ∷ s) is fits = (
-  Digit, λ h. cc, (
+  Digit,
+  λ h. cc,
+  (
     number_lead b s is,
     ap (λ t. cond t (is_token (kinds.Number (wrap (pos (number_value (b ∷ s)))))) is_large) (le-leb (number_value (b ∷ s)) (number_limit (b ∷ s)) fits),
   ),
@@ -143,7 +147,9 @@ number_so (b ∷ s) is fits = (
 large_so : (s : List ℕ) → is_number s ≡ true → number_limit s < number_value s → IsSo is_large s
 large_so [] is large = absurd (true≢false (sym is))
 large_so (b ∷ s) is large = (
-  Digit, λ h. cc, (
+  Digit,
+  λ h. cc,
+  (
     number_lead b s is,
     ap (λ t. cond t (is_token (kinds.Number (wrap (pos (number_value (b ∷ s)))))) is_large) (lt-leb (number_value (b ∷ s)) (number_limit (b ∷ s)) large),
   ),
@@ -152,7 +158,9 @@ large_so (b ∷ s) is large = (
 hashes_so : (s : List ℕ) → is_run is_hash s ≡ true → length s ≤ 255 → IsSo (is_token (kinds.Hashes (length s))) s
 hashes_so [] is short = absurd (true≢false (sym is))
 hashes_so (b ∷ s) is short = (
-  Hash, λ h. cc, (
+  Hash,
+  λ h. cc,
+  (
     lead-hash b (and_parts (is_hash b) (list_all is_hash (b ∷ s)) is).0,
     ap (λ t. cond t (is_token (kinds.Hashes (length (b ∷ s)))) is_many) (le-leb (length (b ∷ s)) 255 short),
   ),
@@ -161,7 +169,9 @@ hashes_so (b ∷ s) is short = (
 many_so : (s : List ℕ) → is_run is_hash s ≡ true → 255 < length s → IsSo is_many s
 many_so [] is long = absurd (true≢false (sym is))
 many_so (b ∷ s) is long = (
-  Hash, λ h. cc, (
+  Hash,
+  λ h. cc,
+  (
     lead-hash b (and_parts (is_hash b) (list_all is_hash (b ∷ s)) is).0,
     ap (λ t. cond t (is_token (kinds.Hashes (length (b ∷ s)))) is_many) (lt-leb (length (b ∷ s)) 255 long),
   ),
@@ -292,9 +302,9 @@ one_outcome size s _ _ (by_text items value behind e2 are stop) (by_shape what s
     absurd (so_quote what spelled rest (items ++ behind) is (sym e ∙ e2))
 one_outcome size s _ _ (by_text items value rest e are stop) (by_text items2 value2 rest2 e2 are2 stop2) =
     by_stop (one_stop items value rest items2 value2 rest2 are are2 (ap (λ l. drop 1 l) (sym e ∙ e2)) stop stop2) where
-  by_stop : (length value ≡ 256) × (length value2 ≡ 256) ⊎ ((value ≡ value2) × (rest ≡ rest2)) → text_outcome (size - length s) value s rest ≡ text_outcome (size - length s) value2 s rest2
-  by_stop (inl full) = full_outcome (size - length s) value s rest full.0 ∙ sym (full_outcome (size - length s) value2 s rest2 full.1)
-  by_stop (inr same) = ap₂ (λ v r. text_outcome (size - length s) v s r) same.0 same.1
+      by_stop : (length value ≡ 256) × (length value2 ≡ 256) ⊎ ((value ≡ value2) × (rest ≡ rest2)) → text_outcome (size - length s) value s rest ≡ text_outcome (size - length s) value2 s rest2
+      by_stop (inl full) = full_outcome (size - length s) value s rest full.0 ∙ sym (full_outcome (size - length s) value2 s rest2 full.1)
+      by_stop (inr same) = ap₂ (λ v r. text_outcome (size - length s) v s r) same.0 same.1
 one_outcome size s _ _ (by_text items value rest e are stop) (by_stray b behind e2 none) =
     absurd (none (34 ∷ []) (subst (λ x. Shape (x ∷ 34 ∷ [])) (ap (λ l. get_or l 0 0) (sym e ∙ e2)) quote_shape))
 one_outcome size s _ _ (by_stray b behind e2 none) (by_shape what spelled rest e longest is) =
@@ -321,7 +331,7 @@ text_comes : (size : ℕ) (s rest value : List ℕ) → TokenAt (kinds.Text valu
 text_comes size s rest value at =
     let is = at.token.0 in
     let whole : s ≡ 34 ∷ is.0 ++ 34 ∷ rest =
-        at.whole ∙ ap (λ l. l ++ rest) is.2 ∙ ap (λ l. 34 ∷ l) (append_assoc is.0 (34 ∷ []) rest) in
+    at.whole ∙ ap (λ l. l ++ rest) is.2 ∙ ap (λ l. 34 ∷ l) (append_assoc is.0 (34 ∷ []) rest) in
     let short : (length value ≡ 256 → ⊥) = λ full. omega (arith, at.token.1) in
     subst (Comes size s)
     (ap (λ t. cond t (refused (faults.TextTooLong (size - length s))) (token_to (kinds.Text value) rest)) (ne_eqb (length value) 256 short))

@@ -1,22 +1,19 @@
 -- Shapes that are as long as possible.
-use Rattle.std.proofs.Common.{◌≡◌, ℕ, ◌+◌, ◌<◌, ◌≤◌, Bool, true, false, ◌&&◌, ◌||◌, not, List, [], ◌∷◌, ◌++◌, length, sym, refl, ap, ap₂, ◌∙◌, subst, subst₂, get_or, drop, true≢false, inl, inr, ◌⊎◌, ⊎_elim, arith, ◌==◌, append_assoc, append-nil}
+use Rattle.std.proofs.Common.{◌≡◌, ℕ, true, false, ◌&&◌, ◌||◌, List, [], ◌∷◌, ◌++◌, sym, refl, ap, ap₂, ◌∙◌, subst, subst₂, get_or, drop, true≢false, inl, inr, ⊎_elim, arith, ◌==◌, append_assoc}
 use Rattle.std.specs.List.{list_all}
-use Rattle.std.proofs.lemmas.Bool.{and_parts, and_from, or_cases, or_parts, or_left, or_right, eqb-true, both_ways, cases_Bool}
+use Rattle.std.proofs.lemmas.Bool.{and_parts, and_from, or_parts, or_left, or_right, both_ways}
 use Rattle.std.proofs.lemmas.Bool.Decides.{nat_tests}
-use Rattle.std.proofs.lemmas.List.{append_cancel_left}
 use Rattle.ci_base.specs.Letters.{is_digit, is_letter, is_white, is_name_byte, is_hex_digit, begins, is_run}
 use Rattle.ci_base.specs.Names.{is_name}
-use Rattle.ci_base.specs.Numbers.{is_decimal, is_hexadecimal, is_number}
-use Rattle.ci_base.specs.Texts.{AreItems, IsText}
+use Rattle.ci_base.specs.Numbers.{is_decimal, is_hexadecimal}
+use Rattle.ci_base.specs.Texts.{AreItems}
 use Rattle.ci_tree.specs.declared.token.Sign.{Sign}
 use Rattle.ci_tree.specs.declared.token.Sign.TheVariants.{Slash as the_slash}
-use Rattle.ci_tree.specs.Comments.{IsBlank, IsOpenComment, has_close, is_inline}
+use Rattle.ci_tree.specs.Comments.{IsOpenComment, has_close, is_inline}
 use Rattle.ci_tree.specs.Comments.IsBlank.{white, marked, slashed, enclosed}
-use Rattle.ci_tree.specs.Longest.{IsLongest}
 use Rattle.ci_tree.specs.Shapes.{Shape, IsWhole, is_hash}
 use Rattle.ci_tree.specs.Shapes.Shape.{name, number, text, hashes, sign, blank, opened}
 use Rattle.ci_tree.specs.Signs.{sign_bytes}
-use Rattle.ci_lexer.specs.declared.lead.Lead.{Lead}
 use Rattle.ci_lexer.specs.declared.lead.Lead.TheVariants.{Letter, Digit, White, Quote, Hash, Mark, Slash, Other}
 use Rattle.ci_lexer.specs.Numbers.{hex_start}
 use Rattle.ci_lexer.specs.Leads.{lead}
@@ -141,9 +138,9 @@ decimal_whole (b ∷ s) rest h stop no_hex = record {
       ⊎_elim
       (λ digits. stops is_digit s more behind rest e stop digits)
       (λ hexadecimal.
-          let begun = hex_start-hexadecimal (b ∷ s ++ more) behind hexadecimal in
-          let same : b ∷ (s ++ more) ++ behind ≡ b ∷ s ++ rest = ap (λ l. b ∷ l) (append_assoc s more behind ∙ ap (λ l. s ++ l) (sym e)) in
-          absurd (both_ways (hex_start (b ∷ s ++ rest)) no_hex (subst (λ l. hex_start l ≡ true) same begun)))
+      let begun = hex_start-hexadecimal (b ∷ s ++ more) behind hexadecimal in
+      let same : b ∷ (s ++ more) ++ behind ≡ b ∷ s ++ rest = ap (λ l. b ∷ l) (append_assoc s more behind ∙ ap (λ l. s ++ l) (sym e)) in
+      absurd (both_ways (hex_start (b ∷ s ++ rest)) no_hex (subst (λ l. hex_start l ≡ true) same begun)))
       (follows_lead b (s ++ more) Digit (lead-digit b (and_parts (is_digit b) (list_all is_digit (b ∷ s)) h).0) shape);
 }
 
@@ -160,8 +157,8 @@ hexadecimal_whole z x digits rest h stop = record {
       ⊎_elim
       (λ decimal. absurd (x_no_digit x marks.1 (and_parts (is_digit x) (list_all is_digit (digits ++ more)) decimal).0))
       (λ hexadecimal.
-          let run = (and_parts (z == 48 && (x == 120 || x == 88)) (is_run is_hex_digit (digits ++ more)) hexadecimal).1 in
-          stops is_hex_digit digits more behind rest e stop (and_parts (begins is_hex_digit (digits ++ more)) (list_all is_hex_digit (digits ++ more)) run).1)
+      let run = (and_parts (z == 48 && (x == 120 || x == 88)) (is_run is_hex_digit (digits ++ more)) hexadecimal).1 in
+      stops is_hex_digit digits more behind rest e stop (and_parts (begins is_hex_digit (digits ++ more)) (list_all is_hex_digit (digits ++ more)) run).1)
       (follows_lead z (x ∷ digits ++ more) Digit (ap lead (hex_first z (x ∷ digits) h) ∙ lead-zero) shape);
 }
 

@@ -1,8 +1,8 @@
 -- The words that are no names.
-use Rattle.std.proofs.Common.{◌≡◌, ℕ, ◌≤◌, ◌<◌, Bool, true, false, cond, ◌&&◌, List, [], ◌∷◌, length, map, Option, Some, None, bytes_eq, sym, refl, ap, ◌∙◌, subst, arith, eqb, nat_eq, filter, inr, inl, leb, ltb, pos, negsuc, ℤ, FitsSigned, w32, ◌⊎◌, ⊎_elim}
+use Rattle.std.proofs.Common.{◌≡◌, ℕ, ◌<◌, Bool, true, false, cond, ◌&&◌, List, [], ◌∷◌, length, map, Option, Some, None, bytes_eq, sym, refl, ap, ◌∙◌, subst, arith, nat_eq, filter, inr, inl, leb, ltb, pos, negsuc, ℤ, FitsSigned, w32, ◌⊎◌, ⊎_elim}
 use Rattle.std.specs.List.{list_all}
 use Rattle.std.proofs.lemmas.List.{length-map}
-use Rattle.std.proofs.lemmas.Bool.{and_parts, both_ways, true≢false, cases_Bool, eq-eqb, false_from_ne_true, eqb-true, false_from_ne_true, leb-true, ltb-true}
+use Rattle.std.proofs.lemmas.Bool.{and_parts, both_ways, true≢false, eq-eqb, false_from_ne_true, false_from_ne_true, leb-true, ltb-true}
 use Rattle.std.proofs.lemmas.Slice.Eq.{bytes_eq-Decides}
 use Rattle.ci_base.specs.Letters.{capital}
 use Rattle.ci_base.specs.Names.{is_name}
@@ -47,7 +47,7 @@ none_other (row ∷ rows) word all outside =
     let least = leb-true 2 (length row.0) bounds.0 in
     let most = leb-true (length row.0) 9 bounds.1 in
     let differs : bytes_eq word row.0 ≡ false =
-        false_from_ne_true (bytes_eq word row.0) (λ same. let e : length word ≡ length row.0 = ap length ((bytes_eq-Decides word row.0).0 same) in ⊎_elim (λ h. omega arith) (λ h. omega arith) outside) in
+    false_from_ne_true (bytes_eq word row.0) (λ same. let e : length word ≡ length row.0 = ap length ((bytes_eq-Decides word row.0).0 same) in ⊎_elim (λ h. omega arith) (λ h. omega arith) outside) in
     rw differs (none_other rows word parts.1 outside)
 
 pub none_outside : (word : List ℕ) → (length word < 2) ⊎ (9 < length word) → look_up table word ≡ None

@@ -1,5 +1,5 @@
 -- What stands in a text.
-use Rattle.std.specs.Prelude.{◌≡◌, ℕ, Bool, true, false, ◌&&◌, List, [], ◌∷◌, ◌++◌, length, ◌==◌}
+use Rattle.std.specs.Prelude.{◌≡◌, ℕ, Bool, true, false, ◌&&◌, List, ◌∷◌, ◌++◌, length, ◌==◌}
 use Rattle.ci_base.specs.Letters.{is_hex_digit}
 use Rattle.ci_base.specs.Texts.{IsItem, AreItems, BeginsItem}
 use Rattle.ci_lexer.specs.declared.text.Item.{Item}

@@ -112,7 +112,11 @@ fn value_of(digits: &[u8], base: u64, limit: u64) -> Option<u32>
             value = value * base + digit_value(*digit) as u64;
         }
     }
-    if value <= limit { Some(value as u32) } else { None }
+    if value <= limit {
+        Some(value as u32)
+    } else {
+        None
+    }
 }
 
 /// The value of a digit or a letter, and 36 for any other byte.

@@ -8,6 +8,7 @@ ghost use Rattle.ci_lexer.specs.Faults.{FaultAt};
 ghost use Rattle.ci_lexer.specs.Fronts.{FrontAt};
 ghost use Rattle.ci_lexer.specs.Items.{ItemAt, EndsText};
 ghost use Rattle.ci_lexer.specs.Leads.{Leads};
+
 use crate::fault::LexFault;
 use crate::lead::{Lead, is_hex_digit};
 use crate::number::digit_value;

@@ -8,6 +8,7 @@ ghost use Rattle.ci_base.specs.Names.{is_name};
 ghost use Rattle.ci_tree.specs.Tokens.{Spells};
 ghost use Rattle.ci_tree.specs.Words.{look_up, reserved, table};
 ghost use Rattle.ci_lexer.specs.Lengths.{words_of};
+
 use crate::fault::LexFault;
 use crate::lead::Lead;
 use crate::run::{Class, split_run};

@@ -1,5 +1,5 @@
 -- The shapes of tokens and blanks, without their limits.
-use Rattle.std.specs.Prelude.{◌≡◌, ℕ, Bool, List, [], ◌∷◌, ◌==◌, IsTrue}
+use Rattle.std.specs.Prelude.{ℕ, Bool, List, ◌==◌, IsTrue}
 use Rattle.ci_base.specs.Letters.{is_run}
 use Rattle.ci_base.specs.Names.{is_name}
 use Rattle.ci_base.specs.Numbers.{is_number}

@@ -1,5 +1,5 @@
 -- The tokens of a source.
-use Rattle.std.specs.Prelude.{◌≡◌, ℕ, ◌+◌, ◌≤◌, ◌<◌, Bool, true, false, ◌&&◌, ◌⊎◌, List, [], ◌∷◌, ◌++◌, length, ◌==◌, Option, Some, None, IsTrue, pos, FitsSigned, if◌then◌else◌}
+use Rattle.std.specs.Prelude.{◌≡◌, ℕ, ◌+◌, ◌≤◌, ◌<◌, true, false, ◌&&◌, ◌⊎◌, List, [], ◌∷◌, ◌++◌, length, ◌==◌, Some, None, IsTrue, pos, FitsSigned, if◌then◌else◌}
 use Rattle.std.proofs.Common.{w32}
 use Rattle.ci_base.specs.Letters.{is_letter, is_run, begins}
 use Rattle.ci_base.specs.Names.{is_name}

@@ -1,5 +1,5 @@
 -- The words that are no names.
-use Rattle.std.specs.Prelude.{ℕ, pos, Bool, List, [], ◌∷◌, map, Option, Some, None, codes, bytes_eq, if◌then◌else◌}
+use Rattle.std.specs.Prelude.{ℕ, pos, List, [], ◌∷◌, map, Option, Some, None, codes, bytes_eq, if◌then◌else◌}
 use Rattle.ci_base.specs.Letters.{capital}
 use Rattle.ci_tree.specs.declared.token.TokenKind.{TokenKind}
 use Rattle.ci_tree.specs.declared.token.TokenKind.TheVariants.{Number, Keyword as keyword}

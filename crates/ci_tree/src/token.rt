@@ -111,7 +111,6 @@ pub struct TokenList {
 impl Model for TokenList {
     ghost use Rattle.std.specs.Prelude.{List, ◌≤◌, length};
     ghost use Rattle.ci_tree.specs.declared.token.Token.{Token};
-
     ghost use Rattle.ci_tree.specs.Tokens.{AreKept};
 
     ghost Value = { List Token };

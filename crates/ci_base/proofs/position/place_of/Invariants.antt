@@ -1,4 +1,4 @@
-use Rattle.std.proofs.Common.{◌≡◌, ◌+◌, ◌≤◌, take}
+use Rattle.std.proofs.Common.{◌≡◌, ◌+◌, ◌≤◌}
 use Rattle.ci_base.specs.Places.{line, column}
 use Rattle.ci_base.proofs.position.place_of.Given as goal
 

@@ -1,5 +1,5 @@
-use Rattle.std.proofs.Common.{sym, ◌∙◌, length, ◌-◌, take, drop}
-use Rattle.ci_lexer.proofs.Closing.{closed_here, closed_more}
+use Rattle.std.proofs.Common.{sym, ◌∙◌}
+use Rattle.ci_lexer.proofs.Closing.{closed_more}
 use Rattle.ci_lexer.proofs.comment.behind_close.Goals as goal
 
 pub loop-left-preserved : goal.loop-left-preserved

@@ -1,4 +1,4 @@
-use Rattle.std.proofs.Common.{◌≡◌, ℕ, List, [], Option, Some, None, refl, inl, inr, ⊎_elim, length}
+use Rattle.std.proofs.Common.{[], Some, None, refl, inl, inr, ⊎_elim, length}
 use Rattle.ci_tree.specs.Tokens.{after_mark}
 use Rattle.ci_lexer.proofs.Existence.{source_ends}
 use Rattle.ci_lexer.proofs.Unique.{one_reading}

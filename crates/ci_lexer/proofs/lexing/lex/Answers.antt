@@ -1,5 +1,5 @@
-use Rattle.std.proofs.Common.{◌≡◌, ◌+◌, ◌-◌, ◌≤◌, length, refl, sym, ap, ◌∙◌, arith}
-use Rattle.ci_tree.specs.Tokens.{Reads, after_mark}
+use Rattle.std.proofs.Common.{◌-◌, length, sym, ap, arith}
+use Rattle.ci_tree.specs.Tokens.{after_mark}
 use Rattle.ci_tree.specs.Tokens.Reads.{here}
 use Rattle.ci_lexer.proofs.Reading.{front_shorter, read_front, read_kept, read_count, mark_short}
 use Rattle.ci_lexer.proofs.lexing.lex.Goals as goal

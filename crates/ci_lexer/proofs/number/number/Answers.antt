@@ -1,4 +1,4 @@
-use Rattle.std.proofs.Common.{sym, ◌∙◌, ap, subst, arith, rules, to_z, w32, to_z-of_z, ℤ}
+use Rattle.std.proofs.Common.{sym, ◌∙◌, ap, arith, rules, to_z, w32, to_z-of_z}
 use mir.Val.{SFits}
 use Rattle.ci_lexer.proofs.Steps.{number_step, number_fault, run_on_fault}
 use Rattle.ci_lexer.proofs.number.number.Goals as goal

@@ -1,6 +1,4 @@
-use Rattle.std.proofs.Common.{◌≡◌, ℕ, ◌+◌, ◌<◌, ◌≤◌, length, take, sym, ap, ◌∙◌, subst₂, MatchOption}
-use Rattle.std.specs.Str.Parse.{digits_value}
-use Rattle.ci_base.specs.Numbers.{number_limit, number_value}
+use Rattle.std.proofs.Common.{◌≡◌, ◌+◌, ◌<◌, ◌≤◌, length, take, sym, subst₂, MatchOption}
 use Rattle.ci_lexer.proofs.Closing.{IsSplit, hexadecimal_split, split_value, split_limit}
 use Rattle.ci_lexer.proofs.number.scan_hexadecimal.Goals as goal
 use Rattle.ci_lexer.proofs.number.scan_hexadecimal.Goals.{After-split_run}

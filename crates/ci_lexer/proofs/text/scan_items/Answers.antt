@@ -10,8 +10,7 @@ pub returns-in_default : goal.returns-in_default
 returns-in_default c =
     let before = c.items.invariant in
     let item = c.in-Byte.ensures in
-    let full : length c.items.value.items ≡ 255 = c.in_default.ensures.full in
-    (
+    let full : length c.items.value.items ≡ 255 = c.in_default.ensures.full in (
       before.items ++ item.0,
       c.in-Byte.rest.now,
       c.items.value.items ++ c.in-Byte.b ∷ [],

@@ -1,4 +1,4 @@
-use Rattle.std.proofs.Common.{◌<◌, ◌≤◌, ◌⊎◌, length, sym, inl, inr, ⊎_elim, arith}
+use Rattle.std.proofs.Common.{◌<◌, ◌⊎◌, length, sym, inl, inr, ⊎_elim, arith}
 use Rattle.std.proofs.lemmas.Bool.{cases_lt}
 use Rattle.ci_lexer.proofs.Words.{words_at, none_outside}
 use Rattle.ci_lexer.proofs.word.look_up.Goals as goal

@@ -1,4 +1,4 @@
-use Rattle.std.proofs.Common.{map, take, sym, ap, ◌∙◌, take_all, length}
+use Rattle.std.proofs.Common.{map, sym, ap, ◌∙◌, take_all}
 use Rattle.ci_base.specs.Letters.{capital}
 use Rattle.ci_tree.specs.Words.{look_up, reserved, table}
 use Rattle.ci_lexer.proofs.Words.{none_long}

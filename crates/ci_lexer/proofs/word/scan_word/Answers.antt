@@ -1,5 +1,3 @@
-use Rattle.std.proofs.Common.{refl, sym, subst}
-use Rattle.ci_lexer.specs.Faults.{FaultAt}
 use Rattle.ci_lexer.proofs.Steps.{word_name, word_step, word_fault}
 use Rattle.ci_lexer.proofs.word.scan_word.Goals as goal
 
