@@ -1,0 +1,5 @@
+pub mod Letters
+pub mod Names
+pub mod Numbers
+pub mod Places
+pub mod Texts

@@ -1,5 +1,6 @@
 //! The tokens of a source.
 ghost use Rattle.std.specs.Prelude.{◌≡◌, ◌≤◌, length};
+ghost use Rattle.ci_tree.specs.Tokens.{AreKept};
 
 use ci_base::Bytes;
 use std::marker::Model;
@@ -101,7 +102,7 @@ pub struct Token {
     pub place: u32,
 }
 
-/// The tokens of a source, at most 262,144. Contracts see the list.
+/// The tokens of a source, at most 262,144, each as its kind is spelled; their places rise. Contracts see the list.
 #[derive(Debug, Drop)]
 pub struct TokenList {
     kept: Vec<Token>,
@@ -110,18 +111,20 @@ pub struct TokenList {
 impl Model for TokenList {
     ghost use Rattle.std.specs.Prelude.{List, ◌≤◌, length};
     ghost use Rattle.ci_tree.specs.declared.token.Token.{Token};
+    ghost use Rattle.ci_tree.specs.Tokens.{AreKept};
 
     ghost Value = { List Token };
 
     ghost view = { λ list. list.kept.items };
 
-    ghost invariant = { λ list. length list.kept.items ≤ 262144 };
+    ghost invariant = { λ list. (length list.kept.items ≤ 262144) × AreKept 0 list.kept.items };
 }
 
 impl TokenList {
     /// The list of these tokens.
     pub fn of(tokens: Vec<Token>) -> TokenList
-        requires { length tokens.items ≤ 262144 }
+        requires within { length tokens.items ≤ 262144 }
+        requires kept { AreKept 0 tokens.items }
         ensures { result ≡ tokens.items }
     {
         TokenList { kept: tokens }
@@ -131,6 +134,7 @@ impl TokenList {
     pub fn tokens(&self) -> &[Token]
         ensures value { result.now ≡ self.now }
         ensures within { length result.now ≤ 262144 }
+        ensures kept { AreKept 0 result.now }
     {
         self.kept.as_slice()
     }

@@ -1,0 +1,12 @@
+pub mod Backs
+pub mod Escaping
+pub mod Items
+pub mod Leading
+pub mod Runs
+pub mod Steps
+pub mod Wholes
+pub mod Words
+pub mod Closing
+pub mod Reading
+pub mod Unique
+pub mod Existence

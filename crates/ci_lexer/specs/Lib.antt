@@ -1,0 +1,10 @@
+pub mod Classes
+pub mod Comments
+pub mod Faults
+pub mod Fronts
+pub mod Items
+pub mod Laws
+pub mod Leads
+pub mod Lengths
+pub mod Numbers
+pub mod Signs
