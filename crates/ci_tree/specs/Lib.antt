@@ -2,3 +2,4 @@ pub mod Tree
 pub mod Seen
 
 
+pub mod Grammar
