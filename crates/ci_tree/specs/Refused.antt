@@ -34,8 +34,9 @@ pub data Symbol : Type 0 where
   number : Symbol
   hashes : Symbol
   type : Symbol
-  -- { Item }
+  -- { Item } and Item
   items : Symbol
+  item : Symbol
   -- [ Type ] Func
   seen : Symbol
   -- Func | Vars ";"
@@ -53,8 +54,9 @@ pub data Symbol : Type 0 where
   -- [ "=" Const ] and Const
   first_value : Symbol
   const : Symbol
-  -- Body
+  -- Body and Stmt
   body : Symbol
+  statement : Symbol
   -- Local, what stands behind its name, and { "," Local }
   local : Symbol
   local_end : Symbol
@@ -207,11 +209,6 @@ abbrev pub typed_or : List Symbol → Option TypeName → Rule → Rule
 typed_or then (Some t) other = takes then
 typed_or then None other = other
 
--- what can stand behind the members of the levels below n
-abbrev pub rests : ℕ → List Symbol
-rests zero = []
-rests (suc n) = rests n ++ rest n ∷ []
-
 abbrev pub unary_rule : TokenKind → Rule
 unary_rule (Sign mark.Minus) = opens (level 0 ∷ []) []
 unary_rule (Keyword word.Not) = opens (level 0 ∷ []) []
@@ -226,23 +223,35 @@ suffix_rule (Sign mark.LeftParen) = opens (arguments ∷ sign mark.RightParen �
 suffix_rule (Sign mark.LeftBracket) = opens (expression ∷ sign mark.RightBracket ∷ []) []
 suffix_rule t = no_rule
 
--- an operator of this group
-abbrev pub joined_if : Bool → ℕ → Rule
-joined_if true n = takes (level n ∷ rest n ∷ [])
-joined_if false n = no_rule
+-- level 0 is Unary; a member of level n + 1 begins with a member of level n
+abbrev pub level_rule : ℕ → TokenKind → Rule
+level_rule zero t = unary_rule t
+level_rule (suc n) t = followed_by (rest n ∷ []) (level_rule n t)
 
-abbrev pub operator_rule : ℕ → Option Operator → Rule
-operator_rule n (Some op) = joined_if (eqb (group_of op) n) n
-operator_rule n None = no_rule
+abbrev pub expression_rule : TokenKind → Rule
+expression_rule t = level_rule 8 t
 
--- `:` and hashes, in their group
-abbrev pub formed_if : Bool → ℕ → Rule
-formed_if true n = takes (hashes ∷ rest n ∷ [])
-formed_if false n = no_rule
+-- What joins one more member to a chain of group n: an operator of the group, or `:` with its hashes.
+pub data Joint : Type 0 where
+  no_joint : Joint
+  by_operator : (operator : Operator) → Joint
+  by_colon : Joint
+
+abbrev pub operator_joint : ℕ → Option Operator → Joint
+operator_joint n (Some op) = cond (eqb (group_of op) n) (by_operator op) no_joint
+operator_joint n None = no_joint
+
+abbrev pub joint : ℕ → TokenKind → Joint
+joint n (Sign mark.Colon) = cond (eqb form_group n) by_colon no_joint
+joint n t = operator_joint n (operator_of_token t)
+
+abbrev pub joint_rule : ℕ → Joint → Rule
+joint_rule n no_joint = no_rule
+joint_rule n (by_operator op) = takes (level n ∷ rest n ∷ [])
+joint_rule n by_colon = takes (hashes ∷ rest n ∷ [])
 
 abbrev pub rest_rule : ℕ → TokenKind → Rule
-rest_rule n (Sign mark.Colon) = formed_if (eqb form_group n) n
-rest_rule n t = operator_rule n (operator_of_token t)
+rest_rule n t = joint_rule n (joint n t)
 
 abbrev pub plain_statement_rule : TokenKind → Rule
 plain_statement_rule (Sign mark.Semicolon) = takes []
@@ -283,7 +292,7 @@ parameter_rule t = typed_or (name ∷ first_value ∷ []) (type_of_token t) no_r
 
 abbrev pub label_rule : TokenKind → Rule
 label_rule (Keyword word.Is) = takes (relation ∷ expression ∷ [])
-label_rule t = followed_by (rests 8 ++ label_end ∷ []) (unary_rule t)
+label_rule t = followed_by (label_end ∷ []) (expression_rule t)
 
 abbrev pub relation_rule : Option Relation → Rule
 relation_rule (Some r) = takes []
@@ -310,6 +319,7 @@ rule hashes (Hashes n) = takes []
 rule hashes t = no_rule
 rule type t = typed_or [] (type_of_token t) no_rule
 rule items t = followed_by (items ∷ []) (item_rule t)
+rule item t = item_rule t
 rule seen t = typed_or (function ∷ []) (type_of_token t) (function_rule t)
 rule typed (Name x) = takes (var_end ∷ more_vars ∷ sign mark.Semicolon ∷ [])
 rule typed t = function_rule t
@@ -328,6 +338,7 @@ rule const (Number v) = takes []
 rule const (Text t) = takes []
 rule const t = no_rule
 rule body t = followed_by (body ∷ []) (statement_rule t)
+rule statement t = statement_rule t
 rule local (Name x) = takes (local_end ∷ [])
 rule local t = no_rule
 rule local_end t = equal_rule (expression ∷ []) t
@@ -335,7 +346,7 @@ rule more_locals t = comma_rule (local ∷ more_locals ∷ []) t
 rule tail t = tail_rule t
 rule else (Keyword word.Else) = takes (body ∷ [])
 rule else t = no_rule
-rule returned t = followed_by (rests 8) (unary_rule t)
+rule returned t = expression_rule t
 rule cases (Keyword word.End) = takes (keyword word.Select ∷ [])
 rule cases (Keyword word.Case) = takes (case ∷ [])
 rule cases t = no_rule
@@ -346,11 +357,22 @@ rule label_end (Keyword word.To) = takes (expression ∷ [])
 rule label_end t = no_rule
 rule more_labels t = comma_rule (label ∷ more_labels ∷ []) t
 rule relation t = relation_rule (relation_of_token t)
-rule arguments t = followed_by (rests 8 ++ more_arguments ∷ []) (unary_rule t)
+rule arguments t = followed_by (more_arguments ∷ []) (expression_rule t)
 rule more_arguments t = comma_rule (expression ∷ more_arguments ∷ []) t
-rule (level n) t = followed_by (rests n) (unary_rule t)
+rule (level n) t = level_rule n t
 rule (rest n) t = rest_rule n t
 rule suffix t = suffix_rule t
+
+-- the symbol has a rule
+abbrev pub has_rule : Rule → Bool
+has_rule no_rule = false
+has_rule (takes then) = true
+has_rule (opens inside then) = true
+
+-- The symbol has a rule that begins with the next token.
+abbrev pub begins : Symbol → Tokens → Bool
+begins s [] = false
+begins s (t ∷ ts) = has_rule (rule s t)
 
 -- The symbol can be empty.
 abbrev pub can_be_empty : Symbol → Bool
