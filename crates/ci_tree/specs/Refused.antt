@@ -47,8 +47,7 @@ pub data Symbol : Type 0 where
   parameters : Symbol
   parameter : Symbol
   more_parameters : Symbol
-  -- Var, what stands behind its name, and { "," Var }
-  var : Symbol
+  -- what stands behind the name of a Var, and { "," Var }
   var_end : Symbol
   more_vars : Symbol
   -- [ "=" Const ] and Const
@@ -57,8 +56,7 @@ pub data Symbol : Type 0 where
   -- Body and Stmt
   body : Symbol
   statement : Symbol
-  -- Local, what stands behind its name, and { "," Local }
-  local : Symbol
+  -- what stands behind the name of a Local, and { "," Local }
   local_end : Symbol
   more_locals : Symbol
   -- Tail
@@ -264,7 +262,7 @@ plain_statement_rule (Keyword word.Return) = takes (returned ∷ sign mark.Semic
 plain_statement_rule t = no_rule
 
 abbrev pub statement_rule : TokenKind → Rule
-statement_rule t = typed_or (local ∷ more_locals ∷ sign mark.Semicolon ∷ []) (type_of_token t) (plain_statement_rule t)
+statement_rule t = typed_or (name ∷ local_end ∷ more_locals ∷ sign mark.Semicolon ∷ []) (type_of_token t) (plain_statement_rule t)
 
 abbrev pub tail_rule : TokenKind → Rule
 tail_rule (Sign mark.LeftParen) = opens (arguments ∷ sign mark.RightParen ∷ []) []
@@ -280,8 +278,8 @@ abbrev pub plain_item_rule : TokenKind → Rule
 plain_item_rule (Sign mark.Semicolon) = takes []
 plain_item_rule (Keyword word.Private) = takes (seen ∷ [])
 plain_item_rule (Keyword word.Public) = takes (seen ∷ [])
-plain_item_rule (Keyword word.Global) = takes (type ∷ var ∷ more_vars ∷ sign mark.Semicolon ∷ [])
-plain_item_rule (Keyword word.Module) = takes (type ∷ var ∷ more_vars ∷ sign mark.Semicolon ∷ [])
+plain_item_rule (Keyword word.Global) = takes (type ∷ name ∷ var_end ∷ more_vars ∷ sign mark.Semicolon ∷ [])
+plain_item_rule (Keyword word.Module) = takes (type ∷ name ∷ var_end ∷ more_vars ∷ sign mark.Semicolon ∷ [])
 plain_item_rule t = function_rule t
 
 abbrev pub item_rule : TokenKind → Rule
@@ -327,11 +325,9 @@ rule function t = function_rule t
 rule parameters t = followed_by (more_parameters ∷ []) (parameter_rule t)
 rule parameter t = parameter_rule t
 rule more_parameters t = comma_rule (parameter ∷ more_parameters ∷ []) t
-rule var (Name x) = takes (var_end ∷ [])
-rule var t = no_rule
 rule var_end (Sign mark.LeftBracket) = takes (number ∷ sign mark.RightBracket ∷ [])
 rule var_end t = equal_rule (const ∷ []) t
-rule more_vars t = comma_rule (var ∷ more_vars ∷ []) t
+rule more_vars t = comma_rule (name ∷ var_end ∷ more_vars ∷ []) t
 rule first_value t = equal_rule (const ∷ []) t
 rule const (Sign mark.Minus) = takes (number ∷ [])
 rule const (Number v) = takes []
@@ -339,10 +335,8 @@ rule const (Text t) = takes []
 rule const t = no_rule
 rule body t = followed_by (body ∷ []) (statement_rule t)
 rule statement t = statement_rule t
-rule local (Name x) = takes (local_end ∷ [])
-rule local t = no_rule
 rule local_end t = equal_rule (expression ∷ []) t
-rule more_locals t = comma_rule (local ∷ more_locals ∷ []) t
+rule more_locals t = comma_rule (name ∷ local_end ∷ more_locals ∷ []) t
 rule tail t = tail_rule t
 rule else (Keyword word.Else) = takes (body ∷ [])
 rule else t = no_rule
