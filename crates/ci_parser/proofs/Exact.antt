@@ -55,12 +55,12 @@ follow_ok {V} q p i0 G f i c v j rest ts e1 e2 e3 h =
     (subst (λ (us : Tokens). ExactBy p i0 (G us) (f (q.tree i c, q.after i c, rest))) (sym e3) h))
 
 -- where one reader agrees, the next goes on behind what it read
-pub follow : {V W : Type 0} (q : Phrase V) (p : Phrase W) (i0 : ℕ) (G : Tokens → Tokens) (F : Stack → Stack) (i : ℕ) (ts : Tokens) (r : Found V) (f : V × ℕ × Tokens → Found W)
+pub follow : {V W : Type 0} (q : Phrase V) {p : Phrase W} {i0 : ℕ} (G : Tokens → Tokens) {F : Stack → Stack} {i : ℕ} {ts : Tokens} {r : Found V} (f : V × ℕ × Tokens → Found W)
   → Exact q i ts r
   → Comes p i0 (G ts) i ts (λ K. q.front (F K))
   → ((c : q.Said) (rest : Tokens) → q.Is c → ts ≡ q.spell c rest → Comes p i0 (G (q.spell c rest)) (q.after i c) rest F → Exact p i0 (G (q.spell c rest)) (f (q.tree i c, q.after i c, rest)))
   → Exact p i0 (G ts) (r >>= f)
-follow q p i0 G F i ts (Ok x) f h comes then = record {
+follow q {p} {i0} G {F} {i} {ts} {r = Ok x} f h comes then = record {
   holds =
       let y = h.holds in
       follow_ok q p i0 G f i y.text x.0 x.1 x.2 ts y.value y.index y.spelled
@@ -70,11 +70,11 @@ follow q p i0 G F i ts (Ok x) f h comes then = record {
         ∙ y.goes (F K)
         ∙ ap (λ (j : ℕ). refused_from j x.2 (F K)) y.index })).holds
 }
-follow q p i0 G F i ts (Err e) f h comes then = record { holds = λ K. comes.goes K ∙ h.holds (F K) }
+follow q {p} {i0} G {F} {i} {ts} {r = Err e} f h comes then = record { holds = λ K. comes.goes K ∙ h.holds (F K) }
 
 -- the reader's end
-pub finish : {V : Type 0} (p : Phrase V) (i : ℕ) (text : p.Said) (j : ℕ) (rest : Tokens) → p.Is text → j ≡ p.after i text → Comes p i (p.spell text rest) j rest (λ K. K) → Exact p i (p.spell text rest) (Ok (p.tree i text, j, rest))
-finish p i text j rest is index comes = record { holds = record { text = text; is = is; value = refl; index = index; spelled = refl; goes = comes.goes } }
+pub finish : {V : Type 0} (p : Phrase V) {i : ℕ} (text : p.Said) {j : ℕ} {rest : Tokens} → p.Is text → j ≡ p.after i text → Comes p i (p.spell text rest) j rest (λ K. K) → Exact p i (p.spell text rest) (Ok (p.tree i text, j, rest))
+finish p {i} text {j} {rest} is index comes = record { holds = record { text = text; is = is; value = refl; index = index; spelled = refl; goes = comes.goes } }
 
 -- one token, by a test that it alone passes
 token_by : {W : Type 0} (p : Phrase W) (i0 : ℕ) (G : Tokens → Tokens) (F : Stack → Stack) (d i : ℕ) (u : TokenKind) (us : Tokens) (f : ℕ × Tokens → Found W) (test : TokenKind → Bool) (t : TokenKind) (s : Symbol) (b : Bool)
@@ -166,27 +166,27 @@ only_sign s (Sign r) e = ap Sign (sym (sign_found r) ∙ ap (nth mark.LeftParen 
 only_sign s u e = absurd (cc)
 
 -- a keyword
-pub follow_keyword : {W : Type 0} (p : Phrase W) (i0 : ℕ) (G : Tokens → Tokens) (F : Stack → Stack) (d i : ℕ) (ts : Tokens) (k : of_keyword.Keyword) (f : ℕ × Tokens → Found W)
+pub follow_keyword : {W : Type 0} {p : Phrase W} {i0 : ℕ} (G : Tokens → Tokens) {F : Stack → Stack} {d i : ℕ} {ts : Tokens} (k : of_keyword.Keyword) (f : ℕ × Tokens → Found W)
   → Comes p i0 (G ts) i ts (λ K. (keyword k, d) ∷ F K)
   → ((rest : Tokens) → Comes p i0 (G (Keyword k ∷ rest)) (suc i) rest F → Exact p i0 (G (Keyword k ∷ rest)) (f (suc i, rest)))
   → Exact p i0 (G ts) (expect (is_keyword k) i ts >>= f)
-follow_keyword p i0 G F d i [] k f comes then = record { holds = λ K. comes.goes K }
-follow_keyword p i0 G F d i (u ∷ us) k f comes then =
+follow_keyword {p} {i0} G {F} {d} {i} {ts = []} k f comes then = record { holds = λ K. comes.goes K }
+follow_keyword {p} {i0} G {F} {d} {i} {ts = u ∷ us} k f comes then =
     token_by p i0 G F d i u us f (is_keyword k) (Keyword k) (keyword k) (is_keyword k u) refl (only_keyword k u) refl refl comes then
 
 -- a sign
-pub follow_sign : {W : Type 0} (p : Phrase W) (i0 : ℕ) (G : Tokens → Tokens) (F : Stack → Stack) (d i : ℕ) (ts : Tokens) (s : of_sign.Sign) (f : ℕ × Tokens → Found W)
+pub follow_sign : {W : Type 0} {p : Phrase W} {i0 : ℕ} (G : Tokens → Tokens) {F : Stack → Stack} {d i : ℕ} {ts : Tokens} (s : of_sign.Sign) (f : ℕ × Tokens → Found W)
   → Comes p i0 (G ts) i ts (λ K. (sign s, d) ∷ F K)
   → ((rest : Tokens) → Comes p i0 (G (Sign s ∷ rest)) (suc i) rest F → Exact p i0 (G (Sign s ∷ rest)) (f (suc i, rest)))
   → Exact p i0 (G ts) (expect (is_sign s) i ts >>= f)
-follow_sign p i0 G F d i [] s f comes then = record { holds = λ K. comes.goes K }
-follow_sign p i0 G F d i (u ∷ us) s f comes then =
+follow_sign {p} {i0} G {F} {d} {i} {ts = []} s f comes then = record { holds = λ K. comes.goes K }
+follow_sign {p} {i0} G {F} {d} {i} {ts = u ∷ us} s f comes then =
     token_by p i0 G F d i u us f (is_sign s) (Sign s) (sign s) (is_sign s u) refl (only_sign s u) refl refl comes then
 
 -- two ways, by a test
-pub chosen : {V : Type 0} (p : Phrase V) (i0 : ℕ) (ts0 : Tokens) (b : Bool) (x y : Found V) → (b ≡ true → Exact p i0 ts0 x) → (b ≡ false → Exact p i0 ts0 y) → Exact p i0 ts0 (cond b x y)
-chosen p i0 ts0 true x y first second = first refl
-chosen p i0 ts0 false x y first second = second refl
+pub chosen : {V : Type 0} {p : Phrase V} {i0 : ℕ} {ts0 : Tokens} (b : Bool) {x y : Found V} → (b ≡ true → Exact p i0 ts0 x) → (b ≡ false → Exact p i0 ts0 y) → Exact p i0 ts0 (cond b x y)
+chosen true first second = first refl
+chosen false first second = second refl
 
 dropped_by : (r : Rule) (b : Bool) (d i : ℕ) (us : Tokens) (K : Stack) (u : TokenKind) → b ≡ true → has_rule r ≡ false
   → from_met i (λ b. refused_from (suc i) us b) (by_rule r b d K (meet u K)) ≡ from_met i (λ b. refused_from (suc i) us b) (meet u K)
