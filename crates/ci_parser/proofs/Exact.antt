@@ -10,7 +10,7 @@ use Rattle.ci_tree.specs.declared.token.Keyword.TheVariants as words
 use Rattle.ci_tree.specs.declared.token.Sign as of_sign
 use Rattle.ci_tree.specs.declared.token.Sign.TheVariants as mark
 use Rattle.ci_tree.specs.Grammar.{Tokens}
-use Rattle.ci_tree.specs.Refused.{Refusal, unexpected, unexpected_end, too_deep, Symbol, keyword, sign, Stack, Rule, no_rule, takes, opens, rule, refused_from, from_met, by_rule, taken_if, meet, push, is_keyword, is_sign, begins, has_rule, can_be_empty, followed_by, keyword_number, sign_number, all_empty, Met, left}
+use Rattle.ci_tree.specs.Refused.{Refusal, unexpected, unexpected_end, too_deep, Symbol, keyword, sign, Stack, Rule, no_rule, takes, opens, rule, refused_from, from_met, by_rule, taken_if, meet, push, is_keyword, is_sign, begins, has_rule, can_be_empty, followed_by, keyword_number, sign_number, all_empty, Met, left, comma_rule}
 use Rattle.ci_parser.specs.Reading.{Found, ◌>>=◌, expect}
 
 -- What a reader reads: what the grammar says of it, and the symbols that stand for it.
@@ -83,12 +83,12 @@ token_by : {W : Type 0} (p : Phrase W) (i0 : ℕ) (G : Tokens → Tokens) (F : S
   → rule s u ≡ taken_if (test u)
   → can_be_empty s ≡ false
   → Comes p i0 (G (u ∷ us)) i (u ∷ us) (λ K. (s, d) ∷ F K)
-  → ((rest : Tokens) → Comes p i0 (G (t ∷ rest)) (suc i) rest F → Exact p i0 (G (t ∷ rest)) (f (suc i, rest)))
+  → ((rest : Tokens) → u ∷ us ≡ t ∷ rest → Comes p i0 (G (t ∷ rest)) (suc i) rest F → Exact p i0 (G (t ∷ rest)) (f (suc i, rest)))
   → Exact p i0 (G (u ∷ us)) (cond b (Ok (suc i, us)) (Err (unexpected i)) >>= f)
 token_by p i0 G F d i u us f test t s true e only r full comes then =
     let same = only e in
     let was : Comes p i0 (G (u ∷ us)) (suc i) us F = record { goes = λ K. comes.goes K ∙ ap (λ (x : Rule). from_met i (λ b. refused_from (suc i) us b) (by_rule x (can_be_empty s) d (F K) (meet u (F K)))) (r ∙ ap taken_if e) } in
-    subst (λ (x : TokenKind). Comes p i0 (G (x ∷ us)) (suc i) us F → Exact p i0 (G (x ∷ us)) (f (suc i, us))) (sym same) (λ c. then us c) was
+    subst (λ (x : TokenKind). Comes p i0 (G (x ∷ us)) (suc i) us F → Exact p i0 (G (x ∷ us)) (f (suc i, us))) (sym same) (λ c. then us (ap (λ x. x ∷ us) same) c) was
 token_by p i0 G F d i u us f test t s false e only r full comes then = record { holds = λ K.
     comes.goes K
     ∙ ap (λ (x : Rule). from_met i (λ b. refused_from (suc i) us b) (by_rule x (can_be_empty s) d (F K) (meet u (F K)))) (r ∙ ap taken_if e)
@@ -168,7 +168,7 @@ only_sign s u e = absurd (cc)
 -- a keyword
 pub follow_keyword : {W : Type 0} {p : Phrase W} {i0 : ℕ} (G : Tokens → Tokens) {F : Stack → Stack} {d i : ℕ} {ts : Tokens} (k : of_keyword.Keyword) (f : ℕ × Tokens → Found W)
   → Comes p i0 (G ts) i ts (λ K. (keyword k, d) ∷ F K)
-  → ((rest : Tokens) → Comes p i0 (G (Keyword k ∷ rest)) (suc i) rest F → Exact p i0 (G (Keyword k ∷ rest)) (f (suc i, rest)))
+  → ((rest : Tokens) → ts ≡ Keyword k ∷ rest → Comes p i0 (G (Keyword k ∷ rest)) (suc i) rest F → Exact p i0 (G (Keyword k ∷ rest)) (f (suc i, rest)))
   → Exact p i0 (G ts) (expect (is_keyword k) i ts >>= f)
 follow_keyword {p} {i0} G {F} {d} {i} {ts = []} k f comes then = record { holds = λ K. comes.goes K }
 follow_keyword {p} {i0} G {F} {d} {i} {ts = u ∷ us} k f comes then =
@@ -177,7 +177,7 @@ follow_keyword {p} {i0} G {F} {d} {i} {ts = u ∷ us} k f comes then =
 -- a sign
 pub follow_sign : {W : Type 0} {p : Phrase W} {i0 : ℕ} (G : Tokens → Tokens) {F : Stack → Stack} {d i : ℕ} {ts : Tokens} (s : of_sign.Sign) (f : ℕ × Tokens → Found W)
   → Comes p i0 (G ts) i ts (λ K. (sign s, d) ∷ F K)
-  → ((rest : Tokens) → Comes p i0 (G (Sign s ∷ rest)) (suc i) rest F → Exact p i0 (G (Sign s ∷ rest)) (f (suc i, rest)))
+  → ((rest : Tokens) → ts ≡ Sign s ∷ rest → Comes p i0 (G (Sign s ∷ rest)) (suc i) rest F → Exact p i0 (G (Sign s ∷ rest)) (f (suc i, rest)))
   → Exact p i0 (G ts) (expect (is_sign s) i ts >>= f)
 follow_sign {p} {i0} G {F} {d} {i} {ts = []} s f comes then = record { holds = λ K. comes.goes K }
 follow_sign {p} {i0} G {F} {d} {i} {ts = u ∷ us} s f comes then =
@@ -231,3 +231,33 @@ began_has more (opens inside then) = refl
 pub begins_as : (s s' : Symbol) (more : List Symbol) (ts : Tokens) → ((u : TokenKind) → rule s u ≡ followed_by more (rule s' u)) → begins s ts ≡ begins s' ts
 begins_as s s' more [] same = refl
 begins_as s s' more (u ∷ us) same = ap has_rule (same u) ∙ began_has more (rule s' u)
+
+split_by : (r : Rule) (x y : Bool) (more : List Symbol) (d : ℕ) (K : Stack) (m n : Met) → x ≡ false → y ≡ false → by_rule (followed_by more r) x d K m ≡ by_rule r y d (push d more K) n
+split_by no_rule true y more d K m n e f = absurd (cc)
+split_by no_rule false true more d K m n e f = absurd (cc)
+split_by no_rule false false more d K m n e f = refl
+split_by (takes then) x y more d K m n e f = ap left (push-append d then more K)
+split_by (opens inside then) x y more zero K m n e f = refl
+split_by (opens inside then) x y more (suc d) K m n e f = ap (λ (k : Stack). left (push d inside k)) (push-append (suc d) then more K)
+
+-- a symbol that is never empty, whose rules are those of another such with more behind it
+pub split : (s s' : Symbol) (more : List Symbol) (d i : ℕ) (ts : Tokens) (K : Stack) → ((u : TokenKind) → rule s u ≡ followed_by more (rule s' u)) → can_be_empty s ≡ false → can_be_empty s' ≡ false → refused_from i ts ((s, d) ∷ K) ≡ refused_from i ts ((s', d) ∷ push d more K)
+split s s' more d i [] K same e f = ap (λ (b : Bool). cond (b && all_empty K) None (Some unexpected_end)) e ∙ ap (λ (b : Bool). cond (b && all_empty (push d more K)) None (Some unexpected_end)) (sym f)
+split s s' more d i (u ∷ us) K same e f =
+    ap (λ (m : Met). from_met i (λ b. refused_from (suc i) us b) m)
+    (ap (λ (r : Rule). by_rule r (can_be_empty s) d K (meet u K)) (same u)
+    ∙ split_by (rule s' u) (can_be_empty s) (can_be_empty s') more d K (meet u K) (meet u (push d more K)) e f)
+
+-- a symbol whose one rule begins with a comma
+pub comma_began : (s : Symbol) (more : List Symbol) (d i : ℕ) (ts : Tokens) (K : Stack) → ((u : TokenKind) → rule s u ≡ comma_rule more u) → begins (sign mark.Comma) ts ≡ true → refused_from i ts ((s, d) ∷ K) ≡ refused_from i ts ((sign mark.Comma, d) ∷ push d more K)
+comma_began s more d i [] K same e = absurd (cc)
+comma_began s more d i (Sign mark.Comma ∷ us) K same e = ap (λ (r : Rule). from_met i (λ b. refused_from (suc i) us b) (by_rule r (can_be_empty s) d K (meet (Sign mark.Comma) K))) (same (Sign mark.Comma))
+comma_began s more d i (u ∷ us) K same e = absurd (cc)
+
+comma_has : (more : List Symbol) (u : TokenKind) → has_rule (comma_rule more u) ≡ has_rule (rule (sign mark.Comma) u)
+comma_has more (Sign mark.Comma) = refl
+comma_has more u = refl
+
+pub comma_begins : (s : Symbol) (more : List Symbol) (ts : Tokens) → ((u : TokenKind) → rule s u ≡ comma_rule more u) → begins s ts ≡ begins (sign mark.Comma) ts
+comma_begins s more [] same = refl
+comma_begins s more (u ∷ us) same = ap has_rule (same u) ∙ comma_has more u

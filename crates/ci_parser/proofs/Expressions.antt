@@ -18,8 +18,8 @@ use Rattle.ci_tree.specs.Grammar as said
 use Rattle.ci_tree.specs.Refused.{Refusal, unexpected, unexpected_end, too_deep, Symbol, Stack, Rule, rule, refused_from, from_met, by_rule, meet, push, is_keyword, is_sign, begins, Joint, no_joint, by_operator, by_colon, joint, joint_rule, operator_joint, type_of_token, relation_of_token, followed_by, level_rule, typed_or, relation_rule}
 use Rattle.ci_tree.specs.Refused as ask
 use Rattle.ci_parser.specs.Reading.{Found, Reader, ◌>>=◌, expect, name_at, number_at, hashes_at, type_at, type_by, relation_at, relation_by, rest_by, rest, level_on, more_arguments, arguments, deeper, suffix, unary_on, unary, expression}
-use Rattle.ci_parser.proofs.Exact.{Phrase, ReadAs, Exact, Comes, start, follow, finish, follow_keyword, follow_sign, chosen, dropped, empty, began, begins_as}
-use Rattle.ci_parser.proofs.Longer.{longer_level}
+use Rattle.ci_parser.proofs.Exact.{Phrase, ReadAs, Exact, Comes, start, follow, finish, follow_keyword, follow_sign, chosen, dropped, empty, began, begins_as, split, comma_began, comma_begins}
+use Rattle.ci_parser.proofs.Longer.{longer_level, longer_more_args}
 
 -- Single tokens
 
@@ -206,3 +206,150 @@ rest_exact n d member each (suc fuel) i [] short = empty (rest_phrase n d) i [] 
 rest_exact n d member each (suc fuel) i (t ∷ ts) short =
     let shorter : length ts ≤ fuel = omega arith in
     rest_by_exact n d member (rest member n fuel) fuel i t ts (joint n t) each (rest_exact n d member each fuel) shorter refl
+
+abbrev pub unary_phrase : ℕ → Phrase to.Expr
+unary_phrase d = record { Said = said.Unary; Is = IsUnary d; spell = spell_unary; after = after_unary; tree = tree_unary; front = λ K. (ask.level 0, d) ∷ K }
+
+-- a Unary is of level 0
+single_exact : (d i : ℕ) (ts : Tokens) (r : Found to.Expr) → Exact (unary_phrase d) i ts r → Exact (level_phrase 0 d) i ts r
+single_exact d i ts (Ok x) h = record { holds = record { text = said.single h.holds.text; is = h.holds.is; value = h.holds.value; index = h.holds.index; spelled = h.holds.spelled; goes = h.holds.goes } }
+single_exact d i ts (Err f) h = record { holds = h.holds }
+
+pub level_exact : (d : ℕ) (base : Reader to.Expr) → AllExact (unary_phrase d) base → (n : ℕ) → AllExact (level_phrase n d) (level_on base n)
+level_exact d base each zero i ts = single_exact d i ts (base i ts) (each i ts)
+level_exact d base each (suc n) i ts =
+    follow (level_phrase n d) (λ us. us) _ (level_exact d base each n i ts)
+    (record { goes = λ K. split (ask.level (suc n)) (ask.level n) (ask.rest n ∷ []) d i ts K (λ u. refl) refl refl })
+    (λ c rest is spelled comes.
+      let short : length rest ≤ length rest = omega arith in
+      follow (rest_phrase n d) (λ us. spell_level c us) _ (rest_exact n d (level_on base n) (level_exact d base each n) (length rest) (after_level i c) rest short) comes
+      (λ r rest r_is spelled comes. finish (level_phrase (suc n) d) (said.group c r) (is, r_is) refl comes))
+
+-- Arguments
+
+abbrev pub more_phrase : ℕ → Phrase to.Exprs
+more_phrase d = record { Said = said.MoreArgs; Is = IsMoreArgs d; spell = spell_more_args; after = after_more_args; tree = tree_more_args; front = λ K. (ask.more_arguments, d) ∷ K }
+
+abbrev pub args_phrase : ℕ → Phrase to.Exprs
+args_phrase d = record { Said = said.Args; Is = IsArgs d; spell = spell_args; after = after_args; tree = tree_args; front = λ K. (ask.arguments, d) ∷ K }
+
+pub more_exact : (d : ℕ) (member : Reader to.Expr) → AllExact (level_phrase 8 d) member → (fuel i : ℕ) (ts : Tokens) → length ts ≤ fuel → Exact (more_phrase d) i ts (more_arguments member fuel i ts)
+more_exact d member each zero i [] short = empty (more_phrase d) i [] said.no_more_args ask.more_arguments d tt refl refl (λ K. refl) refl refl
+more_exact d member each zero i (t ∷ ts) short = absurd (omega arith)
+more_exact d member each (suc fuel) i ts short =
+    chosen (begins (ask.sign mark.Comma) ts)
+    (λ e. follow_sign (λ us. us) mark.Comma _
+      (record { goes = λ K. comma_began ask.more_arguments (ask.expression ∷ ask.more_arguments ∷ []) d i ts K (λ u. refl) e })
+      (λ rest at comes. follow (level_phrase 8 d) (λ us. Sign mark.Comma ∷ us) _ (each (suc i) rest) comes
+        (λ c behind is spelled comes.
+          let shorter : length behind ≤ fuel = omega (arith, longer_level c behind, ap length spelled, ap length at) in
+          follow (more_phrase d) (λ us. Sign mark.Comma ∷ spell_level c us) _ (more_exact d member each fuel (after_level (suc i) c) behind shorter) comes
+          (λ r rest r_is spelled comes. finish (more_phrase d) (said.comma_arg c r) (is, r_is) refl comes))))
+    (λ e. empty (more_phrase d) i ts said.no_more_args ask.more_arguments d tt refl refl (λ K. refl) refl (comma_begins ask.more_arguments (ask.expression ∷ ask.more_arguments ∷ []) ts (λ u. refl) ∙ e))
+
+pub args_exact : (d : ℕ) (member : Reader to.Expr) → AllExact (level_phrase 8 d) member → AllExact (args_phrase d) (arguments member)
+args_exact d member each i ts =
+    chosen (begins ask.arguments ts)
+    (λ e. follow (level_phrase 8 d) (λ us. us) _ (each i ts)
+      (record { goes = λ K. began ask.arguments ask.expression (ask.more_arguments ∷ []) d i ts K (λ u. refl) (sym (begins_as ask.arguments ask.expression (ask.more_arguments ∷ []) ts (λ u. refl)) ∙ e) })
+      (λ c rest is spelled comes.
+        let short : length rest ≤ length rest = omega arith in
+        follow (more_phrase d) (λ us. spell_level c us) _ (more_exact d member each (length rest) (after_level i c) rest short) comes
+        (λ r rest r_is spelled comes. finish (args_phrase d) (said.args c r) (is, r_is) refl comes)))
+    (λ e. empty (args_phrase d) i ts said.no_args ask.arguments d tt refl refl (λ K. refl) refl e)
+
+-- Unary
+
+-- the reader of Unary with one level fewer, where a level is free
+abbrev pub BaseAt : ℕ → Option (Reader to.Expr) → Type 0
+BaseAt zero None = Unit {0}
+BaseAt zero (Some r) = ⊥
+BaseAt (suc d) None = ⊥
+BaseAt (suc d) (Some r) = AllExact (unary_phrase d) r
+
+-- what opens a level: refused where none is free
+pub deeper_exact : {V : Type 0} (P : ℕ → Phrase V) (i0 : ℕ) (ts0 : Tokens) (i d : ℕ) (base : Option (Reader to.Expr)) (inside : Reader to.Expr → Found V)
+  → BaseAt d base
+  → ((K : Stack) → refused_from i0 ts0 ((P zero).front K) ≡ Some (too_deep i))
+  → ((e : ℕ) (r : Reader to.Expr) → AllExact (unary_phrase e) r → Exact (P (suc e)) i0 ts0 (inside r))
+  → Exact (P d) i0 ts0 (deeper i base inside)
+deeper_exact P i0 ts0 i zero None inside at deep then = record { holds = deep }
+deeper_exact P i0 ts0 i zero (Some r) inside at deep then = absurd at
+deeper_exact P i0 ts0 i (suc d) None inside at deep then = absurd at
+deeper_exact P i0 ts0 i (suc d) (Some r) inside at deep then = then d r at
+
+-- what stands behind a name
+data SuffixText : Type 0 where
+  plain : SuffixText
+  with_args : (args : said.Args) → SuffixText
+  with_index : (index : said.Level) → SuffixText
+
+abbrev suffix_unary : List ℕ → SuffixText → said.Unary
+suffix_unary x plain = said.name x
+suffix_unary x (with_args a) = said.called x a
+suffix_unary x (with_index e) = said.element x e
+
+abbrev suffix_spell : SuffixText → Tokens → Tokens
+suffix_spell plain k = k
+suffix_spell (with_args a) k = Sign mark.LeftParen ∷ spell_args a (Sign mark.RightParen ∷ k)
+suffix_spell (with_index e) k = Sign mark.LeftBracket ∷ spell_level e (Sign mark.RightBracket ∷ k)
+
+abbrev suffix_after : ℕ → SuffixText → ℕ
+suffix_after i plain = i
+suffix_after i (with_args a) = suc (after_args (suc i) a)
+suffix_after i (with_index e) = suc (after_level (suc i) e)
+
+abbrev suffix_tree : ℕ → List ℕ → ℕ → SuffixText → to.Expr
+suffix_tree at x i plain = to.expr at at (to.name x)
+suffix_tree at x i (with_args a) = to.expr at at (to.call x (tree_args (suc i) a))
+suffix_tree at x i (with_index e) = to.expr at at (to.element x (tree_level (suc i) e))
+
+abbrev suffix_phrase : ℕ → List ℕ → ℕ → Phrase to.Expr
+suffix_phrase at x d = record { Said = SuffixText; Is = λ s. IsUnary d (suffix_unary x s); spell = suffix_spell; after = suffix_after; tree = suffix_tree at x; front = λ K. (ask.suffix, d) ∷ K }
+
+suffix_exact : (at : ℕ) (x : List ℕ) (d : ℕ) (base : Option (Reader to.Expr)) → BaseAt d base → AllExact (suffix_phrase at x d) (suffix base at x)
+suffix_exact at x d base is i (Sign mark.LeftParen ∷ ts) = deeper_exact (suffix_phrase at x) i (Sign mark.LeftParen ∷ ts) i d base _ is (λ K. refl)
+    (λ e r each. follow (args_phrase e) (λ us. Sign mark.LeftParen ∷ us) _ (args_exact e (level_on r 8) (level_exact e r each 8) (suc i) ts) (record { goes = λ K. refl })
+      (λ a rest a_is spelled comes. follow_sign (λ us. Sign mark.LeftParen ∷ spell_args a us) mark.RightParen _ comes
+        (λ rest at comes. finish (suffix_phrase _ x (suc e)) (with_args a) a_is refl comes)))
+suffix_exact at x d base is i (Sign mark.LeftBracket ∷ ts) = deeper_exact (suffix_phrase at x) i (Sign mark.LeftBracket ∷ ts) i d base _ is (λ K. refl)
+    (λ e r each. follow (level_phrase 8 e) (λ us. Sign mark.LeftBracket ∷ us) _ (level_exact e r each 8 (suc i) ts) (record { goes = λ K. refl })
+      (λ c rest c_is spelled comes. follow_sign (λ us. Sign mark.LeftBracket ∷ spell_level c us) mark.RightBracket _ comes
+        (λ rest at comes. finish (suffix_phrase _ x (suc e)) (with_index c) c_is refl comes)))
+suffix_exact at x d base is i ts = empty (suffix_phrase at x d) i ts plain ask.suffix d tt refl refl (λ K. refl) refl refl
+
+suffix_ok : (x : List ℕ) (d i : ℕ) (ts : Tokens) (s : SuffixText) (v : to.Expr) (j : ℕ) (rest : Tokens)
+  → IsUnary d (suffix_unary x s) → v ≡ suffix_tree i x (suc i) s → j ≡ suffix_after (suc i) s → ts ≡ suffix_spell s rest
+  → ((K : Stack) → refused_from (suc i) ts ((ask.suffix, d) ∷ K) ≡ refused_from j rest K)
+  → ReadAs (unary_phrase d) i (Name x ∷ ts) v j rest
+suffix_ok x d i ts plain v j rest is value index spelled goes = record { text = said.name x; is = is; value = value; index = index; spelled = ap (λ k. Name x ∷ k) spelled; goes = goes }
+suffix_ok x d i ts (with_args a) v j rest is value index spelled goes = record { text = said.called x a; is = is; value = value; index = index; spelled = ap (λ k. Name x ∷ k) spelled; goes = goes }
+suffix_ok x d i ts (with_index e) v j rest is value index spelled goes = record { text = said.element x e; is = is; value = value; index = index; spelled = ap (λ k. Name x ∷ k) spelled; goes = goes }
+
+named_exact : (x : List ℕ) (d i : ℕ) (ts : Tokens) (r : Found to.Expr) → Exact (suffix_phrase i x d) (suc i) ts r → Exact (unary_phrase d) i (Name x ∷ ts) r
+named_exact x d i ts (Ok y) h = record { holds = suffix_ok x d i ts h.holds.text y.0 y.1 y.2 h.holds.is h.holds.value h.holds.index h.holds.spelled h.holds.goes }
+named_exact x d i ts (Err f) h = record { holds = λ K. h.holds K }
+
+unary_on_exact : (d : ℕ) (base : Option (Reader to.Expr)) → BaseAt d base → AllExact (unary_phrase d) (unary_on base)
+unary_on_exact d base is i [] = record { holds = λ K. refl }
+unary_on_exact d base is i (Sign mark.Minus ∷ ts) = deeper_exact unary_phrase i (Sign mark.Minus ∷ ts) i d base _ is (λ K. refl)
+    (λ e r each. follow (unary_phrase e) (λ us. Sign mark.Minus ∷ us) _ (each (suc i) ts) (record { goes = λ K. refl })
+      (λ u rest u_is spelled comes. finish (unary_phrase (suc e)) (said.minus u) u_is refl comes))
+unary_on_exact d base is i (Keyword words.Not ∷ ts) = deeper_exact unary_phrase i (Keyword words.Not ∷ ts) i d base _ is (λ K. refl)
+    (λ e r each. follow (unary_phrase e) (λ us. Keyword words.Not ∷ us) _ (each (suc i) ts) (record { goes = λ K. refl })
+      (λ u rest u_is spelled comes. finish (unary_phrase (suc e)) (said.not u) u_is refl comes))
+unary_on_exact d base is i (Number v ∷ ts) = finish (unary_phrase d) (said.number v) tt refl (record { goes = λ K. refl })
+unary_on_exact d base is i (Text t ∷ ts) = finish (unary_phrase d) (said.text t) tt refl (record { goes = λ K. refl })
+unary_on_exact d base is i (Sign mark.LeftParen ∷ ts) = deeper_exact unary_phrase i (Sign mark.LeftParen ∷ ts) i d base _ is (λ K. refl)
+    (λ e r each. follow (level_phrase 8 e) (λ us. Sign mark.LeftParen ∷ us) _ (level_exact e r each 8 (suc i) ts) (record { goes = λ K. refl })
+      (λ c rest c_is spelled comes. follow_sign (λ us. Sign mark.LeftParen ∷ spell_level c us) mark.RightParen _ comes
+        (λ rest at comes. finish (unary_phrase (suc e)) (said.parens c) c_is refl comes)))
+unary_on_exact d base is i (Name x ∷ ts) = named_exact x d i ts (suffix base i x (suc i) ts) (suffix_exact i x d base is (suc i) ts)
+unary_on_exact d base is i (t ∷ ts) = record { holds = λ K. refl }
+
+pub unary_exact : (d : ℕ) → AllExact (unary_phrase d) (unary d)
+unary_exact zero i ts = unary_on_exact zero None tt i ts
+unary_exact (suc d) i ts = unary_on_exact (suc d) (Some (unary d)) (unary_exact d) i ts
+
+pub expression_exact : (d : ℕ) → AllExact (level_phrase 8 d) (expression d)
+expression_exact d i ts = level_exact d (unary d) (unary_exact d) 8 i ts

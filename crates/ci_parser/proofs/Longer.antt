@@ -23,12 +23,12 @@ mutual
   longer_unary (text t) k = omega arith
   longer_unary (parens e) k = omega (arith, longer_level e (Sign mark.RightParen ∷ k))
   longer_unary (name x) k = omega arith
-  longer_unary (called x a) k = omega (arith, longer_args a k)
+  longer_unary (called x a) k = omega (arith, longer_args a (Sign mark.RightParen ∷ k))
   longer_unary (element x e) k = omega (arith, longer_level e (Sign mark.RightBracket ∷ k))
 
   pub longer_args : (a : Args) (k : Tokens) → length k ≤ length (spell_args a k)
   longer_args no_args k = omega arith
-  longer_args (args e rest) k = omega (arith, longer_level e (spell_more_args rest (Sign mark.RightParen ∷ k)), longer_more_args rest (Sign mark.RightParen ∷ k))
+  longer_args (args e rest) k = omega (arith, longer_level e (spell_more_args rest k), longer_more_args rest k)
 
   pub longer_more_args : (a : MoreArgs) (k : Tokens) → length k ≤ length (spell_more_args a k)
   longer_more_args no_more_args k = omega arith
@@ -52,7 +52,7 @@ mutual
   pub longer_statement : (s : said.Statement) (k : Tokens) → length k ≤ length (said.spell_statement s k)
   longer_statement said.empty k = omega arith
   longer_statement (said.declared t l ls) k = omega (arith, longer_local l (spell_others spell_local ls (Sign mark.Semicolon ∷ k)), longer_others spell_local longer_local ls (Sign mark.Semicolon ∷ k))
-  longer_statement (said.call_of x a) k = omega (arith, longer_args a (Sign mark.Semicolon ∷ k))
+  longer_statement (said.call_of x a) k = omega (arith, longer_args a (Sign mark.RightParen ∷ Sign mark.Semicolon ∷ k))
   longer_statement (said.assigned x e) k = omega (arith, longer_level e (Sign mark.Semicolon ∷ k))
   longer_statement (said.element_assigned x i e) k = omega (arith, longer_level i (Sign mark.RightBracket ∷ Sign mark.Equal ∷ spell_level e (Sign mark.Semicolon ∷ k)), longer_level e (Sign mark.Semicolon ∷ k))
   longer_statement (said.choice e b o) k = omega (arith, longer_level e (Keyword words.Then ∷ said.spell_body b (said.spell_else o (Keyword words.End ∷ k))), longer_body b (said.spell_else o (Keyword words.End ∷ k)), longer_else o (Keyword words.End ∷ k))
@@ -110,7 +110,7 @@ longer_definition (said.scoped_variables g t v vs) k = omega (arith, longer_var 
 pub longer_then : (s : said.Statement) (k : Tokens) → suc (length k) ≤ length (said.spell_statement s k)
 longer_then said.empty k = omega arith
 longer_then (said.declared t l ls) k = omega (arith, longer_local l (spell_others spell_local ls (Sign mark.Semicolon ∷ k)), longer_others spell_local longer_local ls (Sign mark.Semicolon ∷ k))
-longer_then (said.call_of x a) k = omega (arith, longer_args a (Sign mark.Semicolon ∷ k))
+longer_then (said.call_of x a) k = omega (arith, longer_args a (Sign mark.RightParen ∷ Sign mark.Semicolon ∷ k))
 longer_then (said.assigned x e) k = omega (arith, longer_level e (Sign mark.Semicolon ∷ k))
 longer_then (said.element_assigned x i e) k = omega (arith, longer_level i (Sign mark.RightBracket ∷ Sign mark.Equal ∷ spell_level e (Sign mark.Semicolon ∷ k)), longer_level e (Sign mark.Semicolon ∷ k))
 longer_then (said.choice e b o) k = omega (arith, longer_level e (Keyword words.Then ∷ said.spell_body b (said.spell_else o (Keyword words.End ∷ k))), longer_body b (said.spell_else o (Keyword words.End ∷ k)), longer_else o (Keyword words.End ∷ k))

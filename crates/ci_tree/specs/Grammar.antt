@@ -116,7 +116,7 @@ mutual
     called : (name : List ℕ) (args : Args) → Unary
     element : (name : List ℕ) (index : Level) → Unary
 
-  -- "(" [ Expr { "," Expr } ] ")"
+  -- [ Expr { "," Expr } ], between the parentheses of Args
   pub data Args : Type 0 where
     no_args : Args
     args : (first : Level) (rest : MoreArgs) → Args
@@ -143,12 +143,12 @@ abbrev mutual
   spell_unary (text t) k = Text t ∷ k
   spell_unary (parens e) k = Sign sign.LeftParen ∷ spell_level e (Sign sign.RightParen ∷ k)
   spell_unary (name x) k = Name x ∷ k
-  spell_unary (called x a) k = Name x ∷ spell_args a k
+  spell_unary (called x a) k = Name x ∷ Sign sign.LeftParen ∷ spell_args a (Sign sign.RightParen ∷ k)
   spell_unary (element x e) k = Name x ∷ Sign sign.LeftBracket ∷ spell_level e (Sign sign.RightBracket ∷ k)
 
   pub spell_args : Args → Tokens → Tokens
-  spell_args no_args k = Sign sign.LeftParen ∷ Sign sign.RightParen ∷ k
-  spell_args (args e rest) k = Sign sign.LeftParen ∷ spell_level e (spell_more_args rest (Sign sign.RightParen ∷ k))
+  spell_args no_args k = k
+  spell_args (args e rest) k = spell_level e (spell_more_args rest k)
 
   pub spell_more_args : MoreArgs → Tokens → Tokens
   spell_more_args no_more_args k = k
@@ -209,12 +209,12 @@ abbrev mutual
   after_unary i (text t) = suc i
   after_unary i (parens e) = suc (after_level (suc i) e)
   after_unary i (name x) = suc i
-  after_unary i (called x a) = after_args (suc i) a
+  after_unary i (called x a) = suc (after_args (suc (suc i)) a)
   after_unary i (element x e) = suc (after_level (suc (suc i)) e)
 
   pub after_args : ℕ → Args → ℕ
-  after_args i no_args = suc (suc i)
-  after_args i (args e rest) = suc (after_more_args (after_level (suc i) e) rest)
+  after_args i no_args = i
+  after_args i (args e rest) = after_more_args (after_level i e) rest
 
   pub after_more_args : ℕ → MoreArgs → ℕ
   after_more_args i no_more_args = i
@@ -247,12 +247,12 @@ abbrev mutual
   tree_unary i (text t) = to.expr i i (to.literal t)
   tree_unary i (parens e) = begun_at i (tree_level (suc i) e)
   tree_unary i (name x) = to.expr i i (to.name x)
-  tree_unary i (called x a) = to.expr i i (to.call x (tree_args (suc i) a))
+  tree_unary i (called x a) = to.expr i i (to.call x (tree_args (suc (suc i)) a))
   tree_unary i (element x e) = to.expr i i (to.element x (tree_level (suc (suc i)) e))
 
   pub tree_args : ℕ → Args → Exprs
   tree_args i no_args = to.no_expr
-  tree_args i (args e rest) = to.more (tree_level (suc i) e) (tree_more_args (after_level (suc i) e) rest)
+  tree_args i (args e rest) = to.more (tree_level i e) (tree_more_args (after_level i e) rest)
 
   pub tree_more_args : ℕ → MoreArgs → Exprs
   tree_more_args i no_more_args = to.no_expr
@@ -332,7 +332,7 @@ mutual
     empty : Statement
     -- Type Local { "," Local } ";"
     declared : (kind : TypeName) (first : Local) (others : List Local) → Statement
-    -- name Args ";"
+    -- name "(" [ Expr { "," Expr } ] ")" ";"
     call_of : (name : List ℕ) (args : Args) → Statement
     -- name "=" Expr ";"
     assigned : (name : List ℕ) (value : Level) → Statement
@@ -373,7 +373,7 @@ abbrev mutual
   pub spell_statement : Statement → Tokens → Tokens
   spell_statement empty k = Sign sign.Semicolon ∷ k
   spell_statement (declared t l ls) k = type_token t ∷ spell_local l (spell_others spell_local ls (Sign sign.Semicolon ∷ k))
-  spell_statement (call_of x a) k = Name x ∷ spell_args a (Sign sign.Semicolon ∷ k)
+  spell_statement (call_of x a) k = Name x ∷ Sign sign.LeftParen ∷ spell_args a (Sign sign.RightParen ∷ Sign sign.Semicolon ∷ k)
   spell_statement (assigned x e) k = Name x ∷ Sign sign.Equal ∷ spell_level e (Sign sign.Semicolon ∷ k)
   spell_statement (element_assigned x i e) k = Name x ∷ Sign sign.LeftBracket ∷ spell_level i (Sign sign.RightBracket ∷ Sign sign.Equal ∷ spell_level e (Sign sign.Semicolon ∷ k))
   spell_statement (choice e b o) k = Keyword word.If ∷ spell_level e (Keyword word.Then ∷ spell_body b (spell_else o (Keyword word.End ∷ k)))
@@ -427,7 +427,7 @@ abbrev mutual
   pub after_statement : ℕ → Statement → ℕ
   after_statement i empty = suc i
   after_statement i (declared t l ls) = suc (after_others after_local (after_local (suc i) l) ls)
-  after_statement i (call_of x a) = suc (after_args (suc i) a)
+  after_statement i (call_of x a) = suc (suc (after_args (suc (suc i)) a))
   after_statement i (assigned x e) = suc (after_level (suc (suc i)) e)
   after_statement i (element_assigned x j e) = suc (after_level (suc (suc (after_level (suc (suc i)) j))) e)
   after_statement i (choice e b o) = suc (after_else (after_body (suc (after_level (suc i) e)) b) o)
@@ -469,7 +469,7 @@ abbrev mutual
   pub tree_statement : ℕ → Statement → Option Stmt
   tree_statement i empty = None
   tree_statement i (declared t l ls) = Some (to.declare i (record { at = i; name = t }) (tree_local (suc i) l ∷ tree_others after_local tree_local (after_local (suc i) l) ls))
-  tree_statement i (call_of x a) = Some (to.call_of i x (tree_args (suc i) a))
+  tree_statement i (call_of x a) = Some (to.call_of i x (tree_args (suc (suc i)) a))
   tree_statement i (assigned x e) = Some (to.assign i x None (suc i) (tree_level (suc (suc i)) e))
   tree_statement i (element_assigned x j e) =
       let closes = after_level (suc (suc i)) j in
