@@ -10,7 +10,7 @@ use Rattle.ci_tree.specs.declared.token.Keyword.TheVariants as words
 use Rattle.ci_tree.specs.declared.token.Sign as of_sign
 use Rattle.ci_tree.specs.declared.token.Sign.TheVariants as mark
 use Rattle.ci_tree.specs.Grammar.{Tokens}
-use Rattle.ci_tree.specs.Refused.{Refusal, unexpected, unexpected_end, too_deep, Symbol, keyword, sign, Stack, Rule, no_rule, takes, opens, rule, refused_from, from_met, by_rule, taken_if, meet, push, is_keyword, is_sign, begins, has_rule, can_be_empty, followed_by, keyword_number, sign_number, all_empty, Met, left, comma_rule}
+use Rattle.ci_tree.specs.Refused.{Refusal, unexpected, unexpected_end, too_deep, Symbol, keyword, sign, Stack, Rule, no_rule, takes, opens, rule, refused_from, from_met, by_rule, taken_if, meet, push, is_keyword, is_sign, begins, has_rule, can_be_empty, followed_by, keyword_number, sign_number, all_empty, Met, left, comma_rule, equal_rule}
 use Rattle.ci_parser.specs.Reading.{Found, ◌>>=◌, expect}
 
 -- What a reader reads: what the grammar says of it, and the symbols that stand for it.
@@ -261,3 +261,16 @@ comma_has more u = refl
 pub comma_begins : (s : Symbol) (more : List Symbol) (ts : Tokens) → ((u : TokenKind) → rule s u ≡ comma_rule more u) → begins s ts ≡ begins (sign mark.Comma) ts
 comma_begins s more [] same = refl
 comma_begins s more (u ∷ us) same = ap has_rule (same u) ∙ comma_has more u
+
+-- the same at one token
+pub split_one : (s s' : Symbol) (more : List Symbol) (d i : ℕ) (u : TokenKind) (us : Tokens) (K : Stack) → rule s u ≡ followed_by more (rule s' u) → can_be_empty s ≡ false → can_be_empty s' ≡ false → refused_from i (u ∷ us) ((s, d) ∷ K) ≡ refused_from i (u ∷ us) ((s', d) ∷ push d more K)
+split_one s s' more d i u us K same e f =
+    ap (λ (m : Met). from_met i (λ b. refused_from (suc i) us b) m)
+    (ap (λ (r : Rule). by_rule r (can_be_empty s) d K (meet u K)) same
+    ∙ split_by (rule s' u) (can_be_empty s) (can_be_empty s') more d K (meet u K) (meet u (push d more K)) e f)
+
+-- a symbol whose one rule begins with `=`
+pub equal_began : (s : Symbol) (more : List Symbol) (d i : ℕ) (ts : Tokens) (K : Stack) → ((u : TokenKind) → rule s u ≡ equal_rule more u) → begins s ts ≡ true → refused_from i ts ((s, d) ∷ K) ≡ refused_from i ts ((sign mark.Equal, d) ∷ push d more K)
+equal_began s more d i [] K same e = absurd (cc)
+equal_began s more d i (Sign mark.Equal ∷ us) K same e = ap (λ (r : Rule). from_met i (λ b. refused_from (suc i) us b) (by_rule r (can_be_empty s) d K (meet (Sign mark.Equal) K))) (same (Sign mark.Equal))
+equal_began s more d i (u ∷ us) K same e = let h = ap has_rule (same u) in absurd (cc)

@@ -1,3 +1,4 @@
 pub mod Exact
 pub mod Longer
 pub mod Expressions
+pub mod Members

@@ -273,12 +273,6 @@ count at inside i ts = do
   end_word ← expect (is_keyword words.End) b.1 b.2
   Ok (to.for at i x.0 e.0 f.0 b.0, end_word.0, end_word.1)
 
--- "END" "SELECT"
-abbrev pub end_select : ℕ → Tokens → Result (ℕ × Tokens) Refusal
-end_select i ts = do
-  end_word ← expect (is_keyword words.End) i ts
-  expect (is_keyword words.Select) end_word.0 end_word.1
-
 -- Cases
 abbrev pub cases : Inside → ℕ → Reader CasesTree
 cases inside zero i ts = Err unexpected_end
@@ -290,16 +284,18 @@ cases inside (suc fuel) i ts =
         (do
           else_word ← expect (is_keyword words.Else) word.0 word.1
           b ← inside.body else_word.0 else_word.1
-          closed ← end_select b.1 b.2
-          Ok (record { clauses = to.no_clause; other = to.other b.0 }, closed.0, closed.1))
+          end_word ← expect (is_keyword words.End) b.1 b.2
+          select_word ← expect (is_keyword words.Select) end_word.0 end_word.1
+          Ok (record { clauses = to.no_clause; other = to.other b.0 }, select_word.0, select_word.1))
         (do
           labels ← members (label inside.expression) word.0 word.1
           b ← inside.body labels.1 labels.2
           behind ← cases inside fuel b.1 b.2
           Ok (with_clause i labels.0 b.0 behind.0, behind.1, behind.2)))
     (do
-      closed ← end_select i ts
-      Ok (record { clauses = to.no_clause; other = to.no_other }, closed.0, closed.1))
+      end_word ← expect (is_keyword words.End) i ts
+      select_word ← expect (is_keyword words.Select) end_word.0 end_word.1
+      Ok (record { clauses = to.no_clause; other = to.no_other }, select_word.0, select_word.1))
 
 -- behind SELECT
 abbrev pub selection : ℕ → Inside → Reader Stmt
