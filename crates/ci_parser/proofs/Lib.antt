@@ -2,3 +2,4 @@ pub mod Exact
 pub mod Longer
 pub mod Expressions
 pub mod Members
+pub mod Statements
