@@ -274,3 +274,22 @@ pub equal_began : (s : Symbol) (more : List Symbol) (d i : ℕ) (ts : Tokens) (K
 equal_began s more d i [] K same e = absurd (cc)
 equal_began s more d i (Sign mark.Equal ∷ us) K same e = ap (λ (r : Rule). from_met i (λ b. refused_from (suc i) us b) (by_rule r (can_be_empty s) d K (meet (Sign mark.Equal) K))) (same (Sign mark.Equal))
 equal_began s more d i (u ∷ us) K same e = let h = ap has_rule (same u) in absurd (cc)
+
+-- what one reader reads stands for what another says, behind what was read before
+pub turn : {V : Type 0} (q p : Phrase V) {i0 i : ℕ} (G : Tokens → Tokens) {ts : Tokens} {r : Found V} (m : q.Said → p.Said)
+  → Exact q i ts r
+  → Comes p i0 (G ts) i ts q.front
+  → ((x : q.Said) → q.Is x → p.Is (m x))
+  → ((x : q.Said) → q.tree i x ≡ p.tree i0 (m x))
+  → ((x : q.Said) → q.after i x ≡ p.after i0 (m x))
+  → ((x : q.Said) (k : Tokens) → G (q.spell x k) ≡ p.spell (m x) k)
+  → Exact p i0 (G ts) r
+turn q p {i0} {i} G {ts} {r = Ok x} m h comes is tree after spell = record { holds = record {
+  text = m h.holds.text;
+  is = is h.holds.text h.holds.is;
+  value = h.holds.value ∙ tree h.holds.text;
+  index = h.holds.index ∙ after h.holds.text;
+  spelled = ap G h.holds.spelled ∙ spell h.holds.text x.2;
+  goes = λ K. comes.goes K ∙ h.holds.goes K
+} }
+turn q p {i0} {i} G {ts} {r = Err f} m h comes is tree after spell = record { holds = λ K. comes.goes K ∙ h.holds K }

@@ -3,3 +3,4 @@ pub mod Longer
 pub mod Expressions
 pub mod Members
 pub mod Statements
+pub mod Items

@@ -277,3 +277,103 @@ returned_exact at d expression each i ts =
     no_more ask.no_rule = refl
     no_more (ask.takes then) = ap ask.takes (sym (append-nil then))
     no_more (ask.opens inside then) = ap (λ t. ask.opens inside t) (sym (append-nil then))
+
+-- declarations, behind the type's word
+
+abbrev declared_phrase : ℕ → TypeName → ℕ → Phrase to.Stmt
+declared_phrase at t d = record {
+  Said = said.Local × List said.Local;
+  Is = λ x. said.IsLocal d x.0 × said.AreAll (said.IsLocal d) x.1;
+  spell = λ x k. spell_local x.0 (spell_others spell_local x.1 k);
+  after = λ i x. after_others after_local (after_local i x.0) x.1;
+  tree = λ i x. to.declare at (record { at = at; name = t }) (tree_local i x.0 ∷ tree_others after_local tree_local (after_local i x.0) x.1);
+  front = λ K. (ask.name, d) ∷ (ask.local_end, d) ∷ (ask.more_locals, d) ∷ K
+}
+
+declared_exact : (at : ℕ) (t : TypeName) (d : ℕ) (expression : Reader to.Expr) → AllExact (level_phrase 8 d) expression → AllExact (declared_phrase at t d) (declared at t expression)
+declared_exact at t d expression each i ts =
+    follow (members_phrase (local_phrase d) ask.more_locals d) (λ us. us) _
+    (members_exact (local_phrase d) ask.more_locals (ask.name ∷ ask.local_end ∷ ask.more_locals ∷ []) d (local expression) (λ u. refl) (λ K. refl) refl longer_local (local_exact d expression each) i ts)
+    (record { goes = λ K. refl })
+    (λ ls rest ls_is spelled comes. finish (declared_phrase at t d) ls ls_is refl comes)
+
+-- Statements
+
+abbrev pub statement_phrase : ℕ → Phrase (Option to.Stmt)
+statement_phrase d = record { Said = said.Statement; Is = IsStatement d; spell = spell_statement; after = after_statement; tree = tree_statement; front = λ K. (ask.statement, d) ∷ K }
+
+tail_finish : (x : List ℕ) (d i : ℕ) (t : TailText) (rest : Tokens) → IsStatement d (tail_statement x t)
+  → Comes (statement_phrase d) i (Name x ∷ tail_spell t (Sign mark.Semicolon ∷ rest)) (suc (tail_after (suc i) t)) rest (λ K. K)
+  → Exact (statement_phrase d) i (Name x ∷ tail_spell t (Sign mark.Semicolon ∷ rest)) (Ok (Some (tail_tree i x (suc i) t), suc (tail_after (suc i) t), rest))
+tail_finish x d i (with_args a) rest is comes = finish (statement_phrase d) (said.call_of x a) is refl comes
+tail_finish x d i (with_value e) rest is comes = finish (statement_phrase d) (said.assigned x e) is refl comes
+tail_finish x d i (with_index j e) rest is comes = finish (statement_phrase d) (said.element_assigned x j e) is refl comes
+
+returned_finish : (d i : ℕ) (t : ReturnedText) (rest : Tokens) → IsStatement d (returned_statement t)
+  → Comes (statement_phrase d) i (Keyword words.Return ∷ returned_spell t (Sign mark.Semicolon ∷ rest)) (suc (returned_after (suc i) t)) rest (λ K. K)
+  → Exact (statement_phrase d) i (Keyword words.Return ∷ returned_spell t (Sign mark.Semicolon ∷ rest)) (Ok (Some (returned_tree i (suc i) t), suc (returned_after (suc i) t), rest))
+returned_finish d i no_value rest is comes = finish (statement_phrase d) said.return_none is refl comes
+returned_finish d i (a_value e) rest is comes = finish (statement_phrase d) (said.return_value e) is refl comes
+
+plain_exact : (d : ℕ) (expr : ℕ → Reader to.Expr) (inside : Option Inside) → ((e : ℕ) → AllExact (level_phrase 8 e) (expr e)) → InsideAt d inside → (i : ℕ) (t : TokenKind) (ts : Tokens) → type_of_token t ≡ None → Exact (statement_phrase d) i (t ∷ ts) (plain_statement (expr d) inside i (t ∷ ts))
+plain_exact d expr inside each is i (Sign mark.Semicolon) ts none = finish (statement_phrase d) said.empty tt refl (record { goes = λ K. refl })
+plain_exact d expr inside each is i (Name x) ts none =
+    follow (tail_phrase i x d) (λ us. Name x ∷ us) _ (tail_exact i x d expr inside each is (suc i) ts) (record { goes = λ K. refl })
+    (λ t rest t_is spelled comes. follow_sign (λ us. Name x ∷ tail_spell t us) mark.Semicolon _ comes
+    (λ rest at comes. tail_finish x d i t rest t_is comes))
+plain_exact d expr inside each is i (Keyword words.If) ts none = opened_exact statement_phrase i (Keyword words.If ∷ ts) i d inside _ is (λ K. refl)
+    (λ e w w_is. follow (choice_phrase i e) (λ us. Keyword words.If ∷ us) _ (choice_exact i e w w_is (suc i) ts) (record { goes = λ K. refl })
+    (λ c rest c_is spelled comes. finish (statement_phrase (suc e)) (said.choice c.0 c.1 c.2) c_is refl comes))
+plain_exact d expr inside each is i (Keyword words.While) ts none = opened_exact statement_phrase i (Keyword words.While ∷ ts) i d inside _ is (λ K. refl)
+    (λ e w w_is. follow (loop_phrase i e) (λ us. Keyword words.While ∷ us) _ (loop_exact i e w w_is (suc i) ts) (record { goes = λ K. refl })
+    (λ c rest c_is spelled comes. finish (statement_phrase (suc e)) (said.loop c.0 c.1) c_is refl comes))
+plain_exact d expr inside each is i (Keyword words.For) ts none = opened_exact statement_phrase i (Keyword words.For ∷ ts) i d inside _ is (λ K. refl)
+    (λ e w w_is. follow (count_phrase i e) (λ us. Keyword words.For ∷ us) _ (count_exact i e w w_is (suc i) ts) (record { goes = λ K. refl })
+    (λ c rest c_is spelled comes. finish (statement_phrase (suc e)) (said.count c.0 c.1 c.2 c.3) c_is refl comes))
+plain_exact d expr inside each is i (Keyword words.Select) ts none = opened_exact statement_phrase i (Keyword words.Select ∷ ts) i d inside _ is (λ K. refl)
+    (λ e w w_is. follow (selection_phrase i e) (λ us. Keyword words.Select ∷ us) _ (selection_exact i e w w_is (suc i) ts) (record { goes = λ K. refl })
+    (λ c rest c_is spelled comes. finish (statement_phrase (suc e)) (said.selection c.0 c.1) c_is refl comes))
+plain_exact d expr inside each is i (Keyword words.Return) ts none =
+    follow (returned_phrase i d) (λ us. Keyword words.Return ∷ us) _ (returned_exact i d (expr d) (each d) (suc i) ts) (record { goes = λ K. refl })
+    (λ t rest t_is spelled comes. follow_sign (λ us. Keyword words.Return ∷ returned_spell t us) mark.Semicolon _ comes
+    (λ rest at comes. returned_finish d i t rest t_is comes))
+plain_exact d expr inside each is i (Keyword words.Int) ts none = absurd (cc)
+plain_exact d expr inside each is i (Keyword words.String) ts none = absurd (cc)
+plain_exact d expr inside each is i (Keyword words.Real) ts none = absurd (cc)
+plain_exact d expr inside each is i (Keyword words.Object) ts none = absurd (cc)
+plain_exact d expr inside each is i (Keyword words.Quality) ts none = absurd (cc)
+plain_exact d expr inside each is i (Keyword words.Timestamp) ts none = absurd (cc)
+plain_exact d expr inside each is i t ts none = record { holds = λ K. refl }
+
+statement_by_exact : (d : ℕ) (expr : ℕ → Reader to.Expr) (inside : Option Inside) → ((e : ℕ) → AllExact (level_phrase 8 e) (expr e)) → InsideAt d inside → (i : ℕ) (t : TokenKind) (ts : Tokens) (o : Option TypeName) → type_of_token t ≡ o → Exact (statement_phrase d) i (t ∷ ts) (statement_by (expr d) inside i t ts o)
+statement_by_exact d expr inside each is i t ts None e = plain_exact d expr inside each is i t ts e
+statement_by_exact d expr inside each is i t ts (Some kind) e =
+    subst (λ (u : TokenKind). Comes (statement_phrase d) i (u ∷ ts) (suc i) ts (λ K. (ask.name, d) ∷ (ask.local_end, d) ∷ (ask.more_locals, d) ∷ (ask.sign mark.Semicolon, d) ∷ K) → Exact (statement_phrase d) i (u ∷ ts) (closed (declared i kind (expr d) (suc i) ts)))
+    (sym (type_token_is t kind e))
+    (λ comes. follow (declared_phrase i kind d) (λ us. type_token kind ∷ us) _ (declared_exact i kind d (expr d) (each d) (suc i) ts) comes
+      (λ ls rest ls_is spelled comes. follow_sign (λ us. type_token kind ∷ spell_local ls.0 (spell_others spell_local ls.1 us)) mark.Semicolon _ comes
+      (λ rest at comes. finish (statement_phrase d) (said.declared kind ls.0 ls.1) ls_is refl comes)))
+    (record { goes = λ K. ap (λ o. from_met i (λ b. refused_from (suc i) ts b) (by_rule (typed_or (ask.name ∷ ask.local_end ∷ ask.more_locals ∷ ask.sign mark.Semicolon ∷ []) o (plain_statement_rule t)) false d K (meet t K))) e })
+
+statement_exact : (d : ℕ) (expr : ℕ → Reader to.Expr) (inside : Option Inside) → ((e : ℕ) → AllExact (level_phrase 8 e) (expr e)) → InsideAt d inside → AllExact (statement_phrase d) (statement (expr d) inside)
+statement_exact d expr inside each is i [] = record { holds = λ K. refl }
+statement_exact d expr inside each is i (t ∷ ts) = statement_by_exact d expr inside each is i t ts (type_of_token t) refl
+
+statements_exact : (d : ℕ) (expr : ℕ → Reader to.Expr) (inside : Option Inside) → ((e : ℕ) → AllExact (level_phrase 8 e) (expr e)) → InsideAt d inside → (fuel i : ℕ) (ts : Tokens) → length ts ≤ fuel → Exact (body_phrase d) i ts (statements (expr d) inside fuel i ts)
+statements_exact d expr inside each is zero i [] short = empty (body_phrase d) i [] said.end ask.body d tt refl refl (λ K. refl) refl refl
+statements_exact d expr inside each is zero i (t ∷ ts) short = absurd (omega arith)
+statements_exact d expr inside each is (suc fuel) i ts short =
+    chosen (begins ask.body ts)
+    (λ e. follow (statement_phrase d) (λ us. us) _ (statement_exact d expr inside each is i ts)
+      (record { goes = λ K. began ask.body ask.statement (ask.body ∷ []) d i ts K (λ u. refl) (sym (begins_as ask.body ask.statement (ask.body ∷ []) ts (λ u. refl)) ∙ e) })
+      (λ s rest s_is spelled comes.
+        let shorter : length rest ≤ fuel = omega (arith, longer_then s rest, ap length spelled) in
+        follow (body_phrase d) (λ us. spell_statement s us) _ (statements_exact d expr inside each is fuel (after_statement i s) rest shorter) comes
+        (λ b rest b_is spelled comes. finish (body_phrase d) (said.then s b) (s_is, b_is) refl comes)))
+    (λ e. empty (body_phrase d) i ts said.end ask.body d tt refl refl (λ K. refl) refl e)
+
+pub body_exact : (d : ℕ) → AllExact (body_phrase d) (body d)
+body_exact zero i ts = let short : length ts ≤ length ts = omega arith in statements_exact zero expression None expression_exact tt (length ts) i ts short
+body_exact (suc d) i ts =
+    let short : length ts ≤ length ts = omega arith in
+    statements_exact (suc d) expression (Some (record { expression = expression d; body = body d })) expression_exact (record { expression = expression_exact d; body = body_exact d }) (length ts) i ts short
