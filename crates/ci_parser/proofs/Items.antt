@@ -65,7 +65,7 @@ first_exact d i ts =
 
 -- Variables
 
-abbrev var_phrase : Bool → TypeAt → ℕ → Phrase to.Item
+abbrev pub var_phrase : Bool → TypeAt → ℕ → Phrase to.Item
 var_phrase global kind d = record { Said = said.Var; Is = λ v. Unit {0}; spell = spell_var; after = after_var; tree = tree_var global kind; front = λ K. (ask.name, d) ∷ (ask.var_end, d) ∷ K }
 
 var_array : (d i : ℕ) (ts : Tokens) (K : Stack) → begins (ask.sign mark.LeftBracket) ts ≡ true → refused_from i ts ((ask.var_end, d) ∷ K) ≡ refused_from i ts ((ask.sign mark.LeftBracket, d) ∷ (ask.number, d) ∷ (ask.sign mark.RightBracket, d) ∷ K)
@@ -97,7 +97,7 @@ var_exact global kind d i ts =
 
 -- Parameters
 
-abbrev parameter_phrase : ℕ → Phrase Param
+abbrev pub parameter_phrase : ℕ → Phrase Param
 parameter_phrase d = record { Said = said.Parameter; Is = λ v. Unit {0}; spell = spell_parameter; after = after_parameter; tree = tree_parameter; front = λ K. (ask.parameter, d) ∷ K }
 
 typed_split : (s : Symbol) (more : List Symbol) (r : ask.Rule) (o : Option TypeName) → r ≡ typed_or more o no_rule → r ≡ ask.followed_by more (typed_or [] o no_rule)

@@ -4,3 +4,6 @@ pub mod Expressions
 pub mod Members
 pub mod Statements
 pub mod Items
+pub mod Again
+pub mod AgainStatements
+pub mod AgainItems
