@@ -7,3 +7,4 @@ pub mod Items
 pub mod Again
 pub mod AgainStatements
 pub mod AgainItems
+pub mod FromReading
