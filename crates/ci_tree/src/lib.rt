@@ -1,6 +1,7 @@
 //! The tokens of a source, and the trees that are made of them.
 #![tactic(auto)]
 
+mod making;
 mod project;
 mod token;
 mod tree;
