@@ -1,6 +1,7 @@
 //! The parser: from the tokens of a source to its tree.
 #![tactic(auto)]
 
+mod begins;
 mod cursor;
 mod fault;
 mod laws;
