@@ -1,6 +1,10 @@
 pub mod Comments
+pub mod Grammar
 pub mod Longest
+pub mod Refused
+pub mod Seen
 pub mod Shapes
 pub mod Signs
 pub mod Tokens
+pub mod Tree
 pub mod Words

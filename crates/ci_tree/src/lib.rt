@@ -1,8 +1,14 @@
 //! The tokens of a source, and the trees that are made of them.
 #![tactic(auto)]
 
+mod making;
 mod project;
 mod token;
+mod tree;
 
 pub use project::{Project, TextList};
 pub use token::{Keyword, Sign, Token, TokenKind, TokenList};
+pub use tree::{
+    Clause, ClauseList, Const, Expr, ExprKind, ExprList, Item, ItemList, Label, LabelList, Length, Link, LinkList, LocalAt,
+    LocalAtList, Operator, Param, ParamList, Relation, Stmt, StmtList, TypeAt, TypeName,
+};

@@ -1,0 +1,10 @@
+pub mod Exact
+pub mod Longer
+pub mod Expressions
+pub mod Members
+pub mod Statements
+pub mod Items
+pub mod Again
+pub mod AgainStatements
+pub mod AgainItems
+pub mod FromReading

@@ -1,0 +1,14 @@
+//! What holds of the grammar and of the first refused token, whatever the tokens.
+ghost use Rattle.ci_parser.specs.OfGrammar.{TreeOrRefused, OneTree};
+
+/// Tokens have a tree exactly where none of them is refused.
+pub fn tree_or_refused()
+    ensures { TreeOrRefused }
+{
+}
+
+/// Tokens have at most one tree.
+pub fn one_tree()
+    ensures { OneTree }
+{
+}
