@@ -1,6 +1,4 @@
 //! Tables of sources with their tokens and faults.
-ghost use Rattle.std.specs.Prelude.{◌≤◌, length};
-
 use crate::{LexFault, lex};
 use ci_base::{Position, place_of};
 use ci_tree::{Keyword, Sign, Token, TokenKind};
@@ -49,9 +47,8 @@ fn lexes(
     alloc: Global,
     source: &[u8],
     wants: &[(Want<'_>, u32)],
-) -> Result<(), Fail>
-    requires { length source.now ≤ 262144 }
-{
+) -> Result<(), Fail> {
+    assert!(rt; source.len() <= 262144);
     let list = lex(alloc, source)?;
     assert!(rt;
         are_wanted(list.tokens(), wants),
@@ -61,9 +58,8 @@ fn lexes(
 }
 
 /// Asserts that the source is refused with this fault.
-fn refuses(rt: &impl Abort, alloc: Global, source: &[u8], fault: LexFault)
-    requires { length source.now ≤ 262144 }
-{
+fn refuses(rt: &impl Abort, alloc: Global, source: &[u8], fault: LexFault) {
+    assert!(rt; source.len() <= 262144);
     match lex(alloc, source) {
         Ok(list) => assert!(rt; false, "tokens of {source:?}: {list:?}"),
         Err(found) => assert_eq!(rt; found, fault, "fault of {source:?}"),
@@ -71,9 +67,7 @@ fn refuses(rt: &impl Abort, alloc: Global, source: &[u8], fault: LexFault)
 }
 
 /// Asserts that the source is one token at place 0.
-fn one(rt: &impl Abort, alloc: Global, source: &[u8], want: Want<'_>) -> Result<(), Fail>
-    requires { length source.now ≤ 262144 }
-{
+fn one(rt: &impl Abort, alloc: Global, source: &[u8], want: Want<'_>) -> Result<(), Fail> {
     lexes(rt, alloc, source, &[(want, 0)])
 }
 
@@ -129,9 +123,7 @@ fn keywords_in_any_letter_case(rt: HostRuntime) -> Result<(), Fail> {
         (b"BITXOR".as_slice(), Keyword::BitXor),
     ];
     for (source, word) in words {
-        if source.len() <= 9 {
-            one(&rt, alloc, source, Want::Word(word))?;
-        }
+        one(&rt, alloc, source, Want::Word(word))?;
     }
     Ok(())
 }
@@ -147,13 +139,9 @@ fn names_and_their_limit(rt: HostRuntime) -> Result<(), Fail> {
     one(&rt, alloc, b"TRUE", Want::Number(1))?;
     one(&rt, alloc, b"false", Want::Number(0))?;
     let longest = framed(alloc, b"", 64, b'a', b"")?;
-    if longest.len() == 64 {
-        one(&rt, alloc, &longest, Want::Name(&longest))?;
-    }
+    one(&rt, alloc, &longest, Want::Name(&longest))?;
     let longer = framed(alloc, b" ", 65, b'Z', b" @")?;
-    if longer.len() == 68 {
-        refuses(&rt, alloc, &longer, LexFault::NameTooLong { at: 1 });
-    }
+    refuses(&rt, alloc, &longer, LexFault::NameTooLong { at: 1 });
     Ok(())
 }
 
@@ -272,22 +260,18 @@ fn the_limit_of_texts_and_hashes(rt: HostRuntime) -> Result<(), Fail> {
     ];
     for (count, last, fault) in rows {
         let source = framed(alloc, b"\"", count, b'a', last)?;
-        let found = if source.len() < 300 {
-            lex(alloc, &source).err()
-        } else {
-            Some(LexFault::Memory)
-        };
-        assert_eq!(rt; found, fault, "of {count} bytes and {last:?}");
+        assert!(rt; source.len() <= 262144);
+        assert_eq!(rt;
+            lex(alloc, &source).err(),
+            fault,
+            "of {count} bytes and {last:?}"
+        );
     }
     one(&rt, alloc, b"###", Want::Hashes(3))?;
     let most = framed(alloc, b"", 255, b'#', b"")?;
-    if most.len() == 255 {
-        one(&rt, alloc, &most, Want::Hashes(255))?;
-    }
+    one(&rt, alloc, &most, Want::Hashes(255))?;
     let more = framed(alloc, b"(", 256, b'#', b"")?;
-    if more.len() == 257 {
-        refuses(&rt, alloc, &more, LexFault::TextTooLong { at: 1 });
-    }
+    refuses(&rt, alloc, &more, LexFault::TextTooLong { at: 1 });
     Ok(())
 }
 
