@@ -11,6 +11,15 @@ pub struct Position {
     pub column: u32,
 }
 
+impl Position {
+    /// The same place again. Takes no memory.
+    pub fn copy(&self) -> Position
+        ensures { result ≡ self.now }
+    {
+        *self
+    }
+}
+
 /// The line and the column of an offset in a source. Takes no memory, and time by the offset.
 pub fn place_of(source: &[u8], offset: u32) -> Position
     requires within { offset ≤ length source.now }
