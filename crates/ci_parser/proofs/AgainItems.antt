@@ -14,7 +14,7 @@ use Rattle.ci_tree.specs.Grammar as said
 use Rattle.ci_tree.specs.Refused.{Refusal, begins, has_rule, rule}
 use Rattle.ci_tree.specs.Refused as ask
 use Rattle.ci_parser.specs.Reading.{Found, Reader, ◌>>=◌, const, first_value, var_end, var, type_at, parameter, parameters, function_end, function, one_item, variables, typed, seen, scoped, plain_item, item_by, item, items, members, body}
-use Rattle.ci_parser.proofs.Items.{var_phrase, parameter_phrase}
+use Rattle.ci_parser.proofs.ExactItems.{var_phrase, parameter_phrase}
 use Rattle.ci_parser.proofs.Longer.{longer_var, longer_parameter, longer_definition}
 use Rattle.ci_parser.proofs.Again.{then_again, first_way, second_way}
 use Rattle.ci_parser.proofs.AgainStatements.{Closes, MemberAgain, members_again, body_again}

@@ -16,7 +16,7 @@ use Rattle.ci_tree.specs.Refused.{Refusal, begins, has_rule, rule}
 use Rattle.ci_tree.specs.Refused as ask
 use Rattle.ci_parser.specs.Reading.{Found, Reader, ◌>>=◌, others, members, local, label, label_end, relation_at, relation_by, begins_with, Inside, else_part, cases, statement, statement_by, statements, plain_statement, body, expression}
 use Rattle.ci_parser.proofs.Exact.{Phrase, begins_as}
-use Rattle.ci_parser.proofs.Members.{local_phrase, label_phrase}
+use Rattle.ci_parser.proofs.ExactMembers.{local_phrase, label_phrase}
 use Rattle.ci_parser.proofs.Longer.{longer_local, longer_label, longer_others, longer_body, longer_then}
 use Rattle.ci_parser.proofs.Again.{then_again, first_way, second_way, Ends, expression_begins, level_begins, expression_again, arguments_again}
 

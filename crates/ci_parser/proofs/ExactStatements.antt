@@ -13,8 +13,8 @@ use Rattle.ci_tree.specs.Refused.{Symbol, Stack, too_deep, rule, refused_from, f
 use Rattle.ci_tree.specs.Refused as ask
 use Rattle.ci_parser.specs.Reading.{Found, Reader, ◌>>=◌, Inside, opened, else_part, choice, loop, count, cases, selection, tail, returned, closed, some_stmt, plain_statement, declared, statement_by, statement, statements, body, expression, local, label, begins_with}
 use Rattle.ci_parser.proofs.Exact.{Phrase, ReadAs, Exact, Comes, follow, finish, follow_keyword, follow_sign, chosen, dropped, empty, began, begins_as, split_one}
-use Rattle.ci_parser.proofs.Expressions.{AllExact, level_phrase, args_phrase, args_exact, name_phrase, name_exact, type_token_is, expression_exact}
-use Rattle.ci_parser.proofs.Members.{members_phrase, members_exact, local_phrase, local_exact, label_phrase, label_exact}
+use Rattle.ci_parser.proofs.ExactExpressions.{AllExact, level_phrase, args_phrase, args_exact, name_phrase, name_exact, type_token_is, expression_exact}
+use Rattle.ci_parser.proofs.ExactMembers.{members_phrase, members_exact, local_phrase, local_exact, label_phrase, label_exact}
 use Rattle.ci_parser.proofs.Longer.{longer_local, longer_label, longer_others, longer_body, longer_then}
 
 abbrev pub body_phrase : ℕ → Phrase to.Block

@@ -16,9 +16,9 @@ use Rattle.ci_tree.specs.Refused.{Refusal, Symbol, Stack, rule, refused_from, fr
 use Rattle.ci_tree.specs.Refused as ask
 use Rattle.ci_parser.specs.Reading.{Found, Reader, ◌>>=◌, const, first_value, var_end, var, parameter, parameters, function_end, function, one_item, variables, typed, seen, scoped, plain_item, item_by, item, items, members, body}
 use Rattle.ci_parser.proofs.Exact.{Phrase, ReadAs, Exact, Comes, follow, finish, follow_keyword, follow_sign, chosen, dropped, empty, began, begins_as, split, split_one, equal_began, turn}
-use Rattle.ci_parser.proofs.Expressions.{AllExact, name_phrase, name_exact, number_phrase, number_exact, type_phrase, type_exact, type_token_is}
-use Rattle.ci_parser.proofs.Members.{members_phrase, members_exact}
-use Rattle.ci_parser.proofs.Statements.{body_phrase, body_exact}
+use Rattle.ci_parser.proofs.ExactExpressions.{AllExact, name_phrase, name_exact, number_phrase, number_exact, type_phrase, type_exact, type_token_is}
+use Rattle.ci_parser.proofs.ExactMembers.{members_phrase, members_exact}
+use Rattle.ci_parser.proofs.ExactStatements.{body_phrase, body_exact}
 use Rattle.ci_parser.proofs.Longer.{longer_var, longer_parameter, longer_others, longer_body, longer_definition}
 
 -- First values
