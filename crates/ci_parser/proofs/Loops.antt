@@ -75,8 +75,8 @@ hashes_more i count (Ok r) = refl
 hashes_more i count (Err f) = refl
 
 rest_by_is : (member : Reader to.Expr) (behind : Reader to.Links) (next : Reader (List to.Link)) (i : ℕ) (ts : Tokens) (t : TokenKind) (j : Joint)
-  → ((i : ℕ) (ts : Tokens) → behind i ts ≡ with_value links_from (next i ts))
-  → rest_by member behind i ts t j ≡ with_value links_from (link_by member i ts j >>= gathered i (t ∷ ts) next)
+    → ((i : ℕ) (ts : Tokens) → behind i ts ≡ with_value links_from (next i ts))
+    → rest_by member behind i ts t j ≡ with_value links_from (link_by member i ts j >>= gathered i (t ∷ ts) next)
 rest_by_is member behind next i ts t no_joint same = refl
 rest_by_is member behind next i ts t (by_operator op) same = by_member (member (suc i) ts)
   where
@@ -105,17 +105,17 @@ chained_some start first at (l ∷ ls) some = chained_from start first at (link_
 -- members behind commas
 
 others_member : {X : Type 0} (behind next : Reader (List X)) (i : ℕ) (ts : Tokens) (r : Found X) → ((i : ℕ) (ts : Tokens) → behind i ts ≡ next i ts)
-  → (r >>= (λ m. behind m.1 m.2 >>= (λ ms. Ok (m.0 ∷ ms.0, ms.1, ms.2)))) ≡ ((r >>= (λ m. Ok (Some m))) >>= gathered i ts next)
+    → (r >>= (λ m. behind m.1 m.2 >>= (λ ms. Ok (m.0 ∷ ms.0, ms.1, ms.2)))) ≡ ((r >>= (λ m. Ok (Some m))) >>= gathered i ts next)
 others_member behind next i ts (Ok m) same = ap (λ r. r >>= (λ ms. Ok (m.0 ∷ ms.0, ms.1, ms.2))) (same m.1 m.2)
 others_member behind next i ts (Err f) same = refl
 
 others_comma : {X : Type 0} (member : Reader X) (behind next : Reader (List X)) (i : ℕ) (ts : Tokens) (c : Result (ℕ × Tokens) Refusal) → ((i : ℕ) (ts : Tokens) → behind i ts ≡ next i ts)
-  → (c >>= (λ comma. member comma.0 comma.1 >>= (λ m. behind m.1 m.2 >>= (λ ms. Ok (m.0 ∷ ms.0, ms.1, ms.2))))) ≡ ((c >>= (λ comma. member comma.0 comma.1 >>= (λ m. Ok (Some m)))) >>= gathered i ts next)
+    → (c >>= (λ comma. member comma.0 comma.1 >>= (λ m. behind m.1 m.2 >>= (λ ms. Ok (m.0 ∷ ms.0, ms.1, ms.2))))) ≡ ((c >>= (λ comma. member comma.0 comma.1 >>= (λ m. Ok (Some m)))) >>= gathered i ts next)
 others_comma member behind next i ts (Ok comma) same = others_member behind next i ts (member comma.0 comma.1) same
 others_comma member behind next i ts (Err f) same = refl
 
 others_by : {X : Type 0} (member : Reader X) (behind next : Reader (List X)) (i : ℕ) (ts : Tokens) (b : Bool) → ((i : ℕ) (ts : Tokens) → behind i ts ≡ next i ts)
-  → cond b (expect (is_sign mark.Comma) i ts >>= (λ comma. member comma.0 comma.1 >>= (λ m. behind m.1 m.2 >>= (λ ms. Ok (m.0 ∷ ms.0, ms.1, ms.2))))) (Ok ([], i, ts))
+    → cond b (expect (is_sign mark.Comma) i ts >>= (λ comma. member comma.0 comma.1 >>= (λ m. behind m.1 m.2 >>= (λ ms. Ok (m.0 ∷ ms.0, ms.1, ms.2))))) (Ok ([], i, ts))
     ≡ (cond b (expect (is_sign mark.Comma) i ts >>= (λ comma. member comma.0 comma.1 >>= (λ m. Ok (Some m)))) (Ok None) >>= gathered i ts next)
 others_by member behind next i ts true same = others_comma member behind next i ts (expect (is_sign mark.Comma) i ts) same
 others_by member behind next i ts false same = refl
@@ -138,7 +138,7 @@ members_first member i ts m j us e =
 -- arguments
 
 more_by : (member : Reader to.Expr) (behind : Reader to.Exprs) (next : Reader (List to.Expr)) (i : ℕ) (ts : Tokens) (b : Bool) → ((i : ℕ) (ts : Tokens) → behind i ts ≡ with_value exprs_from (next i ts))
-  → cond b (expect (is_sign mark.Comma) i ts >>= (λ comma. member comma.0 comma.1 >>= (λ e. behind e.1 e.2 >>= (λ others. Ok (to.more e.0 others.0, others.1, others.2))))) (Ok (to.no_expr, i, ts))
+    → cond b (expect (is_sign mark.Comma) i ts >>= (λ comma. member comma.0 comma.1 >>= (λ e. behind e.1 e.2 >>= (λ others. Ok (to.more e.0 others.0, others.1, others.2))))) (Ok (to.no_expr, i, ts))
     ≡ with_value exprs_from (cond b (expect (is_sign mark.Comma) i ts >>= (λ comma. member comma.0 comma.1 >>= (λ m. next m.1 m.2 >>= (λ ms. Ok (m.0 ∷ ms.0, ms.1, ms.2))))) (Ok ([], i, ts)))
 more_by member behind next i ts false same = refl
 more_by member behind next i ts true same = by_comma member behind next (expect (is_sign mark.Comma) i ts) same
@@ -148,12 +148,12 @@ more_by member behind next i ts true same = by_comma member behind next (expect 
     by_next e (Err f) = refl
 
     by_member : (behind : Reader to.Exprs) (next : Reader (List to.Expr)) (r : Found to.Expr) → ((i : ℕ) (ts : Tokens) → behind i ts ≡ with_value exprs_from (next i ts))
-      → (r >>= (λ e. behind e.1 e.2 >>= (λ others. Ok (to.more e.0 others.0, others.1, others.2)))) ≡ with_value exprs_from (r >>= (λ m. next m.1 m.2 >>= (λ ms. Ok (m.0 ∷ ms.0, ms.1, ms.2))))
+        → (r >>= (λ e. behind e.1 e.2 >>= (λ others. Ok (to.more e.0 others.0, others.1, others.2)))) ≡ with_value exprs_from (r >>= (λ m. next m.1 m.2 >>= (λ ms. Ok (m.0 ∷ ms.0, ms.1, ms.2))))
     by_member behind next (Ok e) same = ap (λ r. r >>= (λ others. Ok (to.more e.0 others.0, others.1, others.2))) (same e.1 e.2) ∙ by_next e.0 (next e.1 e.2)
     by_member behind next (Err f) same = refl
 
     by_comma : (member : Reader to.Expr) (behind : Reader to.Exprs) (next : Reader (List to.Expr)) (c : Result (ℕ × Tokens) Refusal) → ((i : ℕ) (ts : Tokens) → behind i ts ≡ with_value exprs_from (next i ts))
-      → (c >>= (λ comma. member comma.0 comma.1 >>= (λ e. behind e.1 e.2 >>= (λ others. Ok (to.more e.0 others.0, others.1, others.2))))) ≡ with_value exprs_from (c >>= (λ comma. member comma.0 comma.1 >>= (λ m. next m.1 m.2 >>= (λ ms. Ok (m.0 ∷ ms.0, ms.1, ms.2)))))
+        → (c >>= (λ comma. member comma.0 comma.1 >>= (λ e. behind e.1 e.2 >>= (λ others. Ok (to.more e.0 others.0, others.1, others.2))))) ≡ with_value exprs_from (c >>= (λ comma. member comma.0 comma.1 >>= (λ m. next m.1 m.2 >>= (λ ms. Ok (m.0 ∷ ms.0, ms.1, ms.2)))))
     by_comma member behind next (Ok comma) same = by_member behind next (member comma.0 comma.1) same
     by_comma member behind next (Err f) same = refl
 
@@ -176,13 +176,13 @@ arguments_some member i ts e = ap (λ b. cond b (member i ts >>= (λ e. more_arg
 -- The loop of the code: a round that finds a member, one that fails, the start and the end.
 
 pub goes_on : {X : Type 0} (step : Step X) (front : List X) (count k at : ℕ) (ts : Tokens) (x : X) (j : ℕ) (us : Tokens) (total : Found (List X)) → k < count → step at ts ≡ Ok (Some (x, j, us))
-  → with_front front (gather step (count - k) at ts) ≡ total → with_front (front ++ x ∷ []) (gather step (count - (k + 1)) j us) ≡ total
+    → with_front front (gather step (count - k) at ts) ≡ total → with_front (front ++ x ∷ []) (gather step (count - (k + 1)) j us) ≡ total
 goes_on step front count k at ts x j us total less found so_far =
     let e : count - k ≡ suc (count - (k + 1)) = omega arith in
     round_some step (count - k) (count - (k + 1)) at ts front total x j us so_far e found
 
 pub fails : {X : Type 0} (e : ParseFault) (step : Step X) (front : List X) (count k at : ℕ) (ts : Tokens) (total : Found (List X)) → k < count → Fails e (step at ts)
-  → with_front front (gather step (count - k) at ts) ≡ total → Fails e total
+    → with_front front (gather step (count - k) at ts) ≡ total → Fails e total
 fails faults.Memory step front count k at ts total less failed so_far = tt
 fails faults.UnexpectedEnd step front count k at ts total less failed so_far =
     let some : zero < count - k = omega arith in
@@ -217,7 +217,7 @@ pub found_some : {X Y : Type 0} (view : X → Y) (o : Option X) (x : X) (r : Res
 found_some view o x r e h = e ∙ ap (λ o. Ok (option_map view o)) h
 
 pub goes_on_with : {X : Type 0} (step : Step X) (front front' : List X) (count k at : ℕ) (ts : Tokens) (x : X) (j : ℕ) (us : Tokens) (total : Found (List X)) → front' ≡ front ++ x ∷ [] → k < count → step at ts ≡ Ok (Some (x, j, us))
-  → with_front front (gather step (count - k) at ts) ≡ total → with_front front' (gather step (count - (k + 1)) j us) ≡ total
+    → with_front front (gather step (count - k) at ts) ≡ total → with_front front' (gather step (count - (k + 1)) j us) ≡ total
 goes_on_with step front front' count k at ts x j us total e less found so_far = ap (λ xs. with_front xs (gather step (count - (k + 1)) j us)) e ∙ goes_on step front count k at ts x j us total less found so_far
 
 pub length_kinds : (ts : List Token) → length ts - 0 ≡ length (kinds ts)

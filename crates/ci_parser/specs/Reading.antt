@@ -290,17 +290,17 @@ cases inside (suc fuel) i ts =
     (do
       word ← expect (is_keyword words.Case) i ts
       cond (begins_with words.Else word.1)
-        (do
-          else_word ← expect (is_keyword words.Else) word.0 word.1
-          b ← inside.body else_word.0 else_word.1
-          end_word ← expect (is_keyword words.End) b.1 b.2
-          select_word ← expect (is_keyword words.Select) end_word.0 end_word.1
-          Ok (record { clauses = to.no_clause; other = to.other b.0 }, select_word.0, select_word.1))
-        (do
-          labels ← members (label inside.expression) word.0 word.1
-          b ← inside.body labels.1 labels.2
-          behind ← cases inside fuel b.1 b.2
-          Ok (with_clause i labels.0 b.0 behind.0, behind.1, behind.2)))
+          (do
+            else_word ← expect (is_keyword words.Else) word.0 word.1
+            b ← inside.body else_word.0 else_word.1
+            end_word ← expect (is_keyword words.End) b.1 b.2
+            select_word ← expect (is_keyword words.Select) end_word.0 end_word.1
+            Ok (record { clauses = to.no_clause; other = to.other b.0 }, select_word.0, select_word.1))
+          (do
+            labels ← members (label inside.expression) word.0 word.1
+            b ← inside.body labels.1 labels.2
+            behind ← cases inside fuel b.1 b.2
+            Ok (with_clause i labels.0 b.0 behind.0, behind.1, behind.2)))
     (do
       end_word ← expect (is_keyword words.End) i ts
       select_word ← expect (is_keyword words.Select) end_word.0 end_word.1

@@ -24,12 +24,7 @@ pub fn expression(alloc: Global, free: u32, here: Cursor) -> Result<(Expr, Curso
 
 /// A member of a level: Unary is level 0, and a member of level n + 1 is a chain of group n.
 #[cycle(expressions)]
-fn level(
-    alloc: Global,
-    free: u32,
-    group: u32,
-    here: Cursor,
-) -> Result<(Expr, Cursor), ParseFault>
+fn level(alloc: Global, free: u32, group: u32, here: Cursor) -> Result<(Expr, Cursor), ParseFault>
     requires { group ≤ 8 }
     ensures { Gives (λ x. (expr_of x.0, x.1.at, kinds x.1.left.now)) result (reading.level_on (reading.unary free) group here.entry.at (kinds here.entry.left.now)) }
 {
@@ -143,14 +138,20 @@ fn member(alloc: Global, free: u32, here: Cursor) -> Result<(Expr, Cursor), Pars
                 return Err(ParseFault::TooDeep { at: here.at });
             };
             let (operand, after) = unary(alloc, inside, behind)?;
-            Ok((Expr::unary(here.at, true, Boxed::new(alloc, operand)?), after))
+            Ok((
+                Expr::unary(here.at, true, Boxed::new(alloc, operand)?),
+                after,
+            ))
         }
         TokenKind::Keyword(Keyword::Not) => {
             let Some(inside) = below(free) else {
                 return Err(ParseFault::TooDeep { at: here.at });
             };
             let (operand, after) = unary(alloc, inside, behind)?;
-            Ok((Expr::unary(here.at, false, Boxed::new(alloc, operand)?), after))
+            Ok((
+                Expr::unary(here.at, false, Boxed::new(alloc, operand)?),
+                after,
+            ))
         }
         TokenKind::Number(value) => Ok((Expr::number(here.at, *value), behind)),
         TokenKind::Text(text) => Ok((
@@ -165,7 +166,13 @@ fn member(alloc: Global, free: u32, here: Cursor) -> Result<(Expr, Cursor), Pars
             let closed = expect_sign(after, Sign::RightParen)?;
             Ok((inner.begun_at(here.at), closed))
         }
-        TokenKind::Name(name) => named(alloc, free, here.at, Bytes::copy(alloc, name.bytes())?, behind),
+        TokenKind::Name(name) => named(
+            alloc,
+            free,
+            here.at,
+            Bytes::copy(alloc, name.bytes())?,
+            behind,
+        ),
         _ => Err(ParseFault::Unexpected { at: here.at }),
     }
 }
@@ -272,11 +279,7 @@ fn some_arguments(
 
 /// One more argument behind a comma, if there is a comma.
 #[cycle(expressions)]
-fn argument(
-    alloc: Global,
-    free: u32,
-    here: Cursor,
-) -> Result<Option<(Expr, Cursor)>, ParseFault>
+fn argument(alloc: Global, free: u32, here: Cursor) -> Result<Option<(Expr, Cursor)>, ParseFault>
     ensures { Gives (λ x. option_map (λ y. (expr_of y.0, y.1.at, kinds y.1.left.now)) x) result (reading.comma_step (reading.level_on (reading.unary free) 8) here.entry.at (kinds here.entry.left.now)) }
 {
     if !begins_sign(here, Sign::Comma) {

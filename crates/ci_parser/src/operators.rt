@@ -61,7 +61,11 @@ pub fn joint_in(kind: &TokenKind, group: u32) -> Option<Joint>
     ensures { joint_of result ≡ ask.joint group kind.now }
 {
     if matches!(kind, TokenKind::Sign(Sign::Colon)) {
-        return if group == FORM_GROUP { Some(Joint::Colon) } else { None };
+        return if group == FORM_GROUP {
+            Some(Joint::Colon)
+        } else {
+            None
+        };
     }
     match operator_of(kind) {
         None => None,

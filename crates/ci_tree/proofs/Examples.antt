@@ -39,7 +39,7 @@ call_tree = record {
   file = said.plain_function (said.function (1 ∷ []) said.no_parameters (said.then said.empty (said.then (said.call_of (2 ∷ []) (said.args (plainly (said.text (3 ∷ []))) said.no_more_args)) said.end))) ∷ [];
   within = ((tt, ((((((((((tt, tt), tt), tt), tt), tt), tt), tt), tt), tt), tt)), tt);
   spelled = refl;
-  means = refl
+  means = refl;
 }
 
 -- a chain of two operators is grouped from the left, and ends where a looser one begins

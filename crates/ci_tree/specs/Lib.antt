@@ -1,6 +1,4 @@
 pub mod Tree
 pub mod Seen
-
-
 pub mod Grammar
 pub mod Refused
