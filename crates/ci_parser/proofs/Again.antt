@@ -172,14 +172,14 @@ mutual
   rest_again (said.joined op right more) n d is (suc fuel) i k short ends =
       let shorter : length (spell_rest more k) ≤ fuel = omega (arith, longer_level right (spell_rest more k)) in
       ap (λ (j : Joint). rest_by (level_on (unary d) n) (rest (level_on (unary d) n) n fuel) i (spell_level right (spell_rest more k)) (operator_token op) j)
-        (subst (λ (g : ℕ). joint g (operator_token op) ≡ by_operator op) is.0 (operator_joins op))
+      (subst (λ (g : ℕ). joint g (operator_token op) ≡ by_operator op) is.0 (operator_joins op))
       ∙ then_again _ (level_again right n d is.1 (suc i) (spell_rest more k) (rest_ends more n d is.2 k ends))
-        (then_again _ (rest_again more n d is.2 fuel (after_level (suc i) right) k shorter ends) refl)
+      (then_again _ (rest_again more n d is.2 fuel (after_level (suc i) right) k shorter ends) refl)
   rest_again (said.formed count more) n d is zero i k short ends = absurd (omega arith)
   rest_again (said.formed count more) n d is (suc fuel) i k short ends =
       let shorter : length (spell_rest more k) ≤ fuel = omega arith in
       ap (λ (j : Joint). rest_by (level_on (unary d) n) (rest (level_on (unary d) n) n fuel) i (Hashes count ∷ spell_rest more k) (Sign mark.Colon) j)
-        (subst (λ (g : ℕ). joint g (Sign mark.Colon) ≡ by_colon) is.0 (colon_joins))
+      (subst (λ (g : ℕ). joint g (Sign mark.Colon) ≡ by_colon) is.0 (colon_joins))
       ∙ then_again _ (rest_again more n d is.1 fuel (suc (suc i)) k shorter ends) refl
 
   args_again : (a : said.Args) (d : ℕ) → IsArgs d a → (i : ℕ) (k : Tokens) → arguments (level_on (unary d) 8) i (spell_args a (Sign mark.RightParen ∷ k)) ≡ Ok (tree_args i a, after_args i a, Sign mark.RightParen ∷ k)

@@ -14,7 +14,7 @@ use Rattle.ci_tree.specs.Grammar as said
 use Rattle.ci_tree.specs.Refused.{Refusal, begins, has_rule, rule}
 use Rattle.ci_tree.specs.Refused as ask
 use Rattle.ci_parser.specs.Reading.{Found, Reader, ◌>>=◌, const, first_value, var_end, var, type_at, parameter, parameters, function_end, function, one_item, variables, typed, seen, scoped, plain_item, item_by, item, items, members, body}
-use Rattle.ci_parser.proofs.Items.{var_phrase, parameter_phrase}
+use Rattle.ci_parser.proofs.ExactItems.{var_phrase, parameter_phrase}
 use Rattle.ci_parser.proofs.Longer.{longer_var, longer_parameter, longer_definition}
 use Rattle.ci_parser.proofs.Again.{then_again, first_way, second_way}
 use Rattle.ci_parser.proofs.AgainStatements.{Closes, MemberAgain, members_again, body_again}
@@ -88,7 +88,7 @@ function_again (said.function x ps b) d private gives is i k =
     (then_again _ (body_again b d is (suc (after_parameters (suc (suc (suc i))) ps)) (Keyword words.End ∷ k) refl) refl)
 
 variables_again : (global : Bool) (kind : TypeAt) (v : said.Var) (vs : List said.Var) (i : ℕ) (k : Tokens)
-  → variables global kind i (spell_var v (spell_others spell_var vs (Sign mark.Semicolon ∷ k))) ≡ Ok (tree_var global kind i v ∷ tree_others after_var (tree_var global kind) (after_var i v) vs, suc (after_others after_var (after_var i v) vs), k)
+    → variables global kind i (spell_var v (spell_others spell_var vs (Sign mark.Semicolon ∷ k))) ≡ Ok (tree_var global kind i v ∷ tree_others after_var (tree_var global kind) (after_var i v) vs, suc (after_others after_var (after_var i v) vs), k)
 variables_again global kind v vs i k =
     then_again _ (members_again (var_phrase global kind 0) AfterVar (var global kind) longer_var (λ us. record { no_length = refl; no_first = refl }) (var_again global kind 0) v vs tt (all_unit vs) i (Sign mark.Semicolon ∷ k) (record { no_comma = refl; after = record { no_length = refl; no_first = refl } })) refl
 
@@ -135,7 +135,7 @@ item_again (said.seen_function p f) d is i k =
 item_again (said.seen_typed_function p t f) d is i k =
     item_seen p d i (type_token t ∷ spell_function f k)
     ∙ first_way _ (type_begins t (spell_function f k))
-      (then_again _ (type_again t (suc i) (spell_function f k)) (then_again _ (function_again f d p (Some (record { at = suc i; name = t })) is (suc (suc i)) k) refl))
+    (then_again _ (type_again t (suc i) (spell_function f k)) (then_again _ (function_again f d p (Some (record { at = suc i; name = t })) is (suc (suc i)) k) refl))
 item_again (said.variables t v vs) d is i k =
     item_typed d i t (spell_var v (spell_others spell_var vs (Sign mark.Semicolon ∷ k)))
     ∙ first_way _ (var_name v (spell_others spell_var vs (Sign mark.Semicolon ∷ k))) (variables_again false (record { at = i; name = t }) v vs (suc i) k)
@@ -157,4 +157,4 @@ items_again (x ∷ xs) d is (suc fuel) i short =
     let shorter : length (spell_file xs) ≤ fuel = omega (arith, longer_definition x (spell_file xs)) in
     items_step d fuel i (spell_definition x (spell_file xs)) some
     ∙ then_again _ (item_again x d is.0 i (spell_file xs))
-      (then_again _ (items_again xs d is.1 fuel (after_definition i x) shorter) refl)
+    (then_again _ (items_again xs d is.1 fuel (after_definition i x) shorter) refl)

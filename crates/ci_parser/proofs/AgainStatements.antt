@@ -16,7 +16,7 @@ use Rattle.ci_tree.specs.Refused.{Refusal, begins, has_rule, rule}
 use Rattle.ci_tree.specs.Refused as ask
 use Rattle.ci_parser.specs.Reading.{Found, Reader, ◌>>=◌, others, members, local, label, label_end, relation_at, relation_by, begins_with, Inside, else_part, cases, statement, statement_by, statements, plain_statement, body, expression}
 use Rattle.ci_parser.proofs.Exact.{Phrase, begins_as}
-use Rattle.ci_parser.proofs.Members.{local_phrase, label_phrase}
+use Rattle.ci_parser.proofs.ExactMembers.{local_phrase, label_phrase}
 use Rattle.ci_parser.proofs.Longer.{longer_local, longer_label, longer_others, longer_body, longer_then}
 use Rattle.ci_parser.proofs.Again.{then_again, first_way, second_way, Ends, expression_begins, level_begins, expression_again, arguments_again}
 
@@ -38,11 +38,11 @@ others_none member zero i k e = refl
 others_none member (suc fuel) i k e = second_way _ e refl
 
 others_again : {V : Type 0} (m : Phrase V) (After : Tokens → Type 0) (member : Reader V)
-  → ((x : m.Said) (k : Tokens) → length k ≤ length (m.spell x k))
-  → ((us : Tokens) → After (Sign mark.Comma ∷ us))
-  → MemberAgain m After member
-  → (ms : List m.Said) → AreAll m.Is ms → (fuel i : ℕ) (k : Tokens) → length (spell_others m.spell ms k) ≤ fuel → Closes After k
-  → others member fuel i (spell_others m.spell ms k) ≡ Ok (tree_others m.after m.tree i ms, after_others m.after i ms, k)
+    → ((x : m.Said) (k : Tokens) → length k ≤ length (m.spell x k))
+    → ((us : Tokens) → After (Sign mark.Comma ∷ us))
+    → MemberAgain m After member
+    → (ms : List m.Said) → AreAll m.Is ms → (fuel i : ℕ) (k : Tokens) → length (spell_others m.spell ms k) ≤ fuel → Closes After k
+    → others member fuel i (spell_others m.spell ms k) ≡ Ok (tree_others m.after m.tree i ms, after_others m.after i ms, k)
 others_again m After member longer comma again [] is fuel i k short closes = others_none member fuel i k closes.no_comma
 others_again m After member longer comma again (x ∷ xs) is zero i k short closes = absurd (omega arith)
 others_again m After member longer comma again (x ∷ xs) is (suc fuel) i k short closes =
@@ -51,11 +51,11 @@ others_again m After member longer comma again (x ∷ xs) is (suc fuel) i k shor
     (then_again _ (others_again m After member longer comma again xs is.1 fuel (m.after (suc i) x) k shorter closes) refl)
 
 pub members_again : {V : Type 0} (m : Phrase V) (After : Tokens → Type 0) (member : Reader V)
-  → ((x : m.Said) (k : Tokens) → length k ≤ length (m.spell x k))
-  → ((us : Tokens) → After (Sign mark.Comma ∷ us))
-  → MemberAgain m After member
-  → (x : m.Said) (xs : List m.Said) → m.Is x → AreAll m.Is xs → (i : ℕ) (k : Tokens) → Closes After k
-  → members member i (m.spell x (spell_others m.spell xs k)) ≡ Ok (m.tree i x ∷ tree_others m.after m.tree (m.after i x) xs, after_others m.after (m.after i x) xs, k)
+    → ((x : m.Said) (k : Tokens) → length k ≤ length (m.spell x k))
+    → ((us : Tokens) → After (Sign mark.Comma ∷ us))
+    → MemberAgain m After member
+    → (x : m.Said) (xs : List m.Said) → m.Is x → AreAll m.Is xs → (i : ℕ) (k : Tokens) → Closes After k
+    → members member i (m.spell x (spell_others m.spell xs k)) ≡ Ok (m.tree i x ∷ tree_others m.after m.tree (m.after i x) xs, after_others m.after (m.after i x) xs, k)
 members_again m After member longer comma again x xs is all i k closes =
     let short : length (spell_others m.spell xs k) ≤ length (spell_others m.spell xs k) = omega arith in
     then_again _ (again x is i (spell_others m.spell xs k) (others_after m.spell After comma xs k closes.after))
@@ -183,7 +183,7 @@ else_no_body said.no_else k = refl
 else_no_body (said.else b) k = refl
 
 declared_again : (t : TypeName) (l : said.Local) (ls : List said.Local) (d : ℕ) (inside : Option Inside) → IsLocal d l → AreAll (IsLocal d) ls → (i : ℕ) (k : Tokens)
-  → statement (expression d) inside i (type_token t ∷ spell_local l (spell_others spell_local ls (Sign mark.Semicolon ∷ k))) ≡ Ok (tree_statement i (said.declared t l ls), after_statement i (said.declared t l ls), k)
+    → statement (expression d) inside i (type_token t ∷ spell_local l (spell_others spell_local ls (Sign mark.Semicolon ∷ k))) ≡ Ok (tree_statement i (said.declared t l ls), after_statement i (said.declared t l ls), k)
 declared_again t l ls d inside is all i k = typed t ∙ behind
   where
     typed : (t : TypeName) → statement (expression d) inside i (type_token t ∷ spell_local l (spell_others spell_local ls (Sign mark.Semicolon ∷ k))) ≡ statement_by (expression d) inside i (type_token t) (spell_local l (spell_others spell_local ls (Sign mark.Semicolon ∷ k))) (Some t)
@@ -198,7 +198,7 @@ declared_again t l ls d inside is all i k = typed t ∙ behind
     behind =
         then_again _
         (then_again _ (members_again (local_phrase d) AfterLocal (local (expression d)) longer_local (λ us. record { ends = record { no_suffix = refl; no_rest = λ m h. refl }; no_value = refl }) (local_again d) l ls is all (suc i) (Sign mark.Semicolon ∷ k)
-          (record { no_comma = refl; after = record { ends = record { no_suffix = refl; no_rest = λ m h. refl }; no_value = refl } })) refl)
+        (record { no_comma = refl; after = record { ends = record { no_suffix = refl; no_rest = λ m h. refl }; no_value = refl } })) refl)
         refl
 
 -- what ends an expression in a statement
@@ -238,40 +238,40 @@ mutual
   statement_again (said.element_assigned x j e) (suc d) is i k =
       then_again _
       (then_again _ (expression_again j d is.0 (suc (suc i)) (Sign mark.RightBracket ∷ Sign mark.Equal ∷ spell_level e (Sign mark.Semicolon ∷ k)) (record { no_suffix = refl; no_rest = λ m h. refl }))
-        (then_again _ (expression_again e (suc d) is.1 (suc (suc (after_level (suc (suc i)) j))) (Sign mark.Semicolon ∷ k) (record { no_suffix = refl; no_rest = λ m h. refl })) refl))
+      (then_again _ (expression_again e (suc d) is.1 (suc (suc (after_level (suc (suc i)) j))) (Sign mark.Semicolon ∷ k) (record { no_suffix = refl; no_rest = λ m h. refl })) refl))
       refl
   statement_again (said.choice e b o) zero is i k = absurd is
   statement_again (said.choice e b o) (suc d) is i k =
       then_again _
       (then_again _ (expression_again e d is.0 (suc i) (Keyword words.Then ∷ spell_body b (spell_else o (Keyword words.End ∷ k))) (record { no_suffix = refl; no_rest = λ m h. refl }))
-        (then_again _ (in_body b d (suc (after_level (suc i) e)) (spell_else o (Keyword words.End ∷ k)) (statements_again b d is.1 (length (spell_body b (spell_else o (Keyword words.End ∷ k)))) (suc (after_level (suc i) e)) (spell_else o (Keyword words.End ∷ k)) (same (length (spell_body b (spell_else o (Keyword words.End ∷ k))))) (else_no_body o k)))
-        (then_again _ (else_again o d is.2 (after_body (suc (after_level (suc i) e)) b) k) refl)))
+      (then_again _ (in_body b d (suc (after_level (suc i) e)) (spell_else o (Keyword words.End ∷ k)) (statements_again b d is.1 (length (spell_body b (spell_else o (Keyword words.End ∷ k)))) (suc (after_level (suc i) e)) (spell_else o (Keyword words.End ∷ k)) (same (length (spell_body b (spell_else o (Keyword words.End ∷ k))))) (else_no_body o k)))
+      (then_again _ (else_again o d is.2 (after_body (suc (after_level (suc i) e)) b) k) refl)))
       refl
   statement_again (said.loop e b) zero is i k = absurd is
   statement_again (said.loop e b) (suc d) is i k =
       then_again _
       (then_again _ (expression_again e d is.0 (suc i) (Keyword words.Do ∷ spell_body b (Keyword words.End ∷ k)) (record { no_suffix = refl; no_rest = λ m h. refl }))
-        (then_again _ (in_body b d (suc (after_level (suc i) e)) (Keyword words.End ∷ k) (statements_again b d is.1 (length (spell_body b (Keyword words.End ∷ k))) (suc (after_level (suc i) e)) (Keyword words.End ∷ k) (same (length (spell_body b (Keyword words.End ∷ k)))) refl)) refl))
+      (then_again _ (in_body b d (suc (after_level (suc i) e)) (Keyword words.End ∷ k) (statements_again b d is.1 (length (spell_body b (Keyword words.End ∷ k))) (suc (after_level (suc i) e)) (Keyword words.End ∷ k) (same (length (spell_body b (Keyword words.End ∷ k)))) refl)) refl))
       refl
   statement_again (said.count x e f b) zero is i k = absurd is
   statement_again (said.count x e f b) (suc d) is i k =
       then_again _
       (then_again _ (expression_again e d is.0 (suc (suc (suc i))) (Keyword words.To ∷ spell_level f (Keyword words.Do ∷ spell_body b (Keyword words.End ∷ k))) (record { no_suffix = refl; no_rest = λ m h. refl }))
-        (then_again _ (expression_again f d is.1 (suc (after_level (suc (suc (suc i))) e)) (Keyword words.Do ∷ spell_body b (Keyword words.End ∷ k)) (record { no_suffix = refl; no_rest = λ m h. refl }))
-        (then_again _ (in_body b d (suc (after_level (suc (after_level (suc (suc (suc i))) e)) f)) (Keyword words.End ∷ k) (statements_again b d is.2 (length (spell_body b (Keyword words.End ∷ k))) (suc (after_level (suc (after_level (suc (suc (suc i))) e)) f)) (Keyword words.End ∷ k) (same (length (spell_body b (Keyword words.End ∷ k)))) refl)) refl)))
+      (then_again _ (expression_again f d is.1 (suc (after_level (suc (suc (suc i))) e)) (Keyword words.Do ∷ spell_body b (Keyword words.End ∷ k)) (record { no_suffix = refl; no_rest = λ m h. refl }))
+      (then_again _ (in_body b d (suc (after_level (suc (after_level (suc (suc (suc i))) e)) f)) (Keyword words.End ∷ k) (statements_again b d is.2 (length (spell_body b (Keyword words.End ∷ k))) (suc (after_level (suc (after_level (suc (suc (suc i))) e)) f)) (Keyword words.End ∷ k) (same (length (spell_body b (Keyword words.End ∷ k)))) refl)) refl)))
       refl
   statement_again (said.selection e c) zero is i k = absurd is
   statement_again (said.selection e c) (suc d) is i k =
       let short : suc (length (spell_cases c k)) ≤ suc (length (spell_cases c k)) = omega arith in
       then_again _
       (then_again _ (expression_again e d is.0 (suc (suc i)) (spell_cases c k) (cases_ends c k))
-        (then_again _ (cases_again c d is.1 (suc (length (spell_cases c k))) (after_level (suc (suc i)) e) k short) refl))
+      (then_again _ (cases_again c d is.1 (suc (length (spell_cases c k))) (after_level (suc (suc i)) e) k short) refl))
       refl
   statement_again said.return_none d is i k = refl
   statement_again (said.return_value e) d is i k =
       then_again _
       (first_way _ (expression_begins e (Sign mark.Semicolon ∷ k))
-        (then_again _ (expression_again e d is (suc i) (Sign mark.Semicolon ∷ k) (record { no_suffix = refl; no_rest = λ m h. refl })) refl))
+      (then_again _ (expression_again e d is (suc i) (Sign mark.Semicolon ∷ k) (record { no_suffix = refl; no_rest = λ m h. refl })) refl))
       refl
 
   else_again : (o : said.Else) (d : ℕ) → IsElse d o → (i : ℕ) (k : Tokens) → else_part (inside_of d) i (spell_else o (Keyword words.End ∷ k)) ≡ Ok (tree_else i o, after_else i o, Keyword words.End ∷ k)

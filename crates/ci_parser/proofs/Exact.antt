@@ -46,9 +46,9 @@ pub start : {V : Type 0} (p : Phrase V) (i : ℕ) (ts : Tokens) → Comes p i ts
 start p i ts = record { goes = λ K. refl }
 
 follow_ok : {V W : Type 0} (q : Phrase V) (p : Phrase W) (i0 : ℕ) (G : Tokens → Tokens) (f : V × ℕ × Tokens → Found W) (i : ℕ) (c : q.Said) (v : V) (j : ℕ) (rest ts : Tokens)
-  → v ≡ q.tree i c → j ≡ q.after i c → ts ≡ q.spell c rest
-  → ExactBy p i0 (G (q.spell c rest)) (f (q.tree i c, q.after i c, rest))
-  → ExactBy p i0 (G ts) (f (v, j, rest))
+    → v ≡ q.tree i c → j ≡ q.after i c → ts ≡ q.spell c rest
+    → ExactBy p i0 (G (q.spell c rest)) (f (q.tree i c, q.after i c, rest))
+    → ExactBy p i0 (G ts) (f (v, j, rest))
 follow_ok {V} q p i0 G f i c v j rest ts e1 e2 e3 h =
     subst (λ (w : V). ExactBy p i0 (G ts) (f (w, j, rest))) (sym e1)
     (subst (λ (k : ℕ). ExactBy p i0 (G ts) (f (q.tree i c, k, rest))) (sym e2)
@@ -56,19 +56,21 @@ follow_ok {V} q p i0 G f i c v j rest ts e1 e2 e3 h =
 
 -- where one reader agrees, the next goes on behind what it read
 pub follow : {V W : Type 0} (q : Phrase V) {p : Phrase W} {i0 : ℕ} (G : Tokens → Tokens) {F : Stack → Stack} {i : ℕ} {ts : Tokens} {r : Found V} (f : V × ℕ × Tokens → Found W)
-  → Exact q i ts r
-  → Comes p i0 (G ts) i ts (λ K. q.front (F K))
-  → ((c : q.Said) (rest : Tokens) → q.Is c → ts ≡ q.spell c rest → Comes p i0 (G (q.spell c rest)) (q.after i c) rest F → Exact p i0 (G (q.spell c rest)) (f (q.tree i c, q.after i c, rest)))
-  → Exact p i0 (G ts) (r >>= f)
+    → Exact q i ts r
+    → Comes p i0 (G ts) i ts (λ K. q.front (F K))
+    → ((c : q.Said) (rest : Tokens) → q.Is c → ts ≡ q.spell c rest → Comes p i0 (G (q.spell c rest)) (q.after i c) rest F → Exact p i0 (G (q.spell c rest)) (f (q.tree i c, q.after i c, rest)))
+    → Exact p i0 (G ts) (r >>= f)
 follow q {p} {i0} G {F} {i} {ts} {r = Ok x} f h comes then = record {
   holds =
       let y = h.holds in
       follow_ok q p i0 G f i y.text x.0 x.1 x.2 ts y.value y.index y.spelled
-      (then y.text x.2 y.is y.spelled (record { goes = λ K.
-        ap (λ (us : Tokens). refused_from i0 (G us) (p.front K)) (sym y.spelled)
-        ∙ comes.goes K
-        ∙ y.goes (F K)
-        ∙ ap (λ (j : ℕ). refused_from j x.2 (F K)) y.index })).holds
+      (then y.text x.2 y.is y.spelled (record {
+        goes = λ K.
+            ap (λ (us : Tokens). refused_from i0 (G us) (p.front K)) (sym y.spelled)
+            ∙ comes.goes K
+            ∙ y.goes (F K)
+            ∙ ap (λ (j : ℕ). refused_from j x.2 (F K)) y.index;
+      })).holds;
 }
 follow q {p} {i0} G {F} {i} {ts} {r = Err e} f h comes then = record { holds = λ K. comes.goes K ∙ h.holds (F K) }
 
@@ -78,21 +80,23 @@ finish p {i} text {j} {rest} is index comes = record { holds = record { text = t
 
 -- one token, by a test that it alone passes
 token_by : {W : Type 0} (p : Phrase W) (i0 : ℕ) (G : Tokens → Tokens) (F : Stack → Stack) (d i : ℕ) (u : TokenKind) (us : Tokens) (f : ℕ × Tokens → Found W) (test : TokenKind → Bool) (t : TokenKind) (s : Symbol) (b : Bool)
-  → test u ≡ b
-  → (test u ≡ true → u ≡ t)
-  → rule s u ≡ taken_if (test u)
-  → can_be_empty s ≡ false
-  → Comes p i0 (G (u ∷ us)) i (u ∷ us) (λ K. (s, d) ∷ F K)
-  → ((rest : Tokens) → u ∷ us ≡ t ∷ rest → Comes p i0 (G (t ∷ rest)) (suc i) rest F → Exact p i0 (G (t ∷ rest)) (f (suc i, rest)))
-  → Exact p i0 (G (u ∷ us)) (cond b (Ok (suc i, us)) (Err (unexpected i)) >>= f)
+    → test u ≡ b
+    → (test u ≡ true → u ≡ t)
+    → rule s u ≡ taken_if (test u)
+    → can_be_empty s ≡ false
+    → Comes p i0 (G (u ∷ us)) i (u ∷ us) (λ K. (s, d) ∷ F K)
+    → ((rest : Tokens) → u ∷ us ≡ t ∷ rest → Comes p i0 (G (t ∷ rest)) (suc i) rest F → Exact p i0 (G (t ∷ rest)) (f (suc i, rest)))
+    → Exact p i0 (G (u ∷ us)) (cond b (Ok (suc i, us)) (Err (unexpected i)) >>= f)
 token_by p i0 G F d i u us f test t s true e only r full comes then =
     let same = only e in
     let was : Comes p i0 (G (u ∷ us)) (suc i) us F = record { goes = λ K. comes.goes K ∙ ap (λ (x : Rule). from_met i (λ b. refused_from (suc i) us b) (by_rule x (can_be_empty s) d (F K) (meet u (F K)))) (r ∙ ap taken_if e) } in
     subst (λ (x : TokenKind). Comes p i0 (G (x ∷ us)) (suc i) us F → Exact p i0 (G (x ∷ us)) (f (suc i, us))) (sym same) (λ c. then us (ap (λ x. x ∷ us) same) c) was
-token_by p i0 G F d i u us f test t s false e only r full comes then = record { holds = λ K.
-    comes.goes K
-    ∙ ap (λ (x : Rule). from_met i (λ b. refused_from (suc i) us b) (by_rule x (can_be_empty s) d (F K) (meet u (F K)))) (r ∙ ap taken_if e)
-    ∙ ap (λ (b : Bool). from_met i (λ b. refused_from (suc i) us b) (by_rule no_rule b d (F K) (meet u (F K)))) full }
+token_by p i0 G F d i u us f test t s false e only r full comes then = record {
+  holds = λ K.
+      comes.goes K
+      ∙ ap (λ (x : Rule). from_met i (λ b. refused_from (suc i) us b) (by_rule x (can_be_empty s) d (F K) (meet u (F K)))) (r ∙ ap taken_if e)
+      ∙ ap (λ (b : Bool). from_met i (λ b. refused_from (suc i) us b) (by_rule no_rule b d (F K) (meet u (F K)))) full;
+}
 
 -- the member at a place of a list
 abbrev nth : {A : Type 0} → A → List A → ℕ → A
@@ -167,18 +171,18 @@ only_sign s u e = absurd (cc)
 
 -- a keyword
 pub follow_keyword : {W : Type 0} {p : Phrase W} {i0 : ℕ} (G : Tokens → Tokens) {F : Stack → Stack} {d i : ℕ} {ts : Tokens} (k : of_keyword.Keyword) (f : ℕ × Tokens → Found W)
-  → Comes p i0 (G ts) i ts (λ K. (keyword k, d) ∷ F K)
-  → ((rest : Tokens) → ts ≡ Keyword k ∷ rest → Comes p i0 (G (Keyword k ∷ rest)) (suc i) rest F → Exact p i0 (G (Keyword k ∷ rest)) (f (suc i, rest)))
-  → Exact p i0 (G ts) (expect (is_keyword k) i ts >>= f)
+    → Comes p i0 (G ts) i ts (λ K. (keyword k, d) ∷ F K)
+    → ((rest : Tokens) → ts ≡ Keyword k ∷ rest → Comes p i0 (G (Keyword k ∷ rest)) (suc i) rest F → Exact p i0 (G (Keyword k ∷ rest)) (f (suc i, rest)))
+    → Exact p i0 (G ts) (expect (is_keyword k) i ts >>= f)
 follow_keyword {p} {i0} G {F} {d} {i} {ts = []} k f comes then = record { holds = λ K. comes.goes K }
 follow_keyword {p} {i0} G {F} {d} {i} {ts = u ∷ us} k f comes then =
     token_by p i0 G F d i u us f (is_keyword k) (Keyword k) (keyword k) (is_keyword k u) refl (only_keyword k u) refl refl comes then
 
 -- a sign
 pub follow_sign : {W : Type 0} {p : Phrase W} {i0 : ℕ} (G : Tokens → Tokens) {F : Stack → Stack} {d i : ℕ} {ts : Tokens} (s : of_sign.Sign) (f : ℕ × Tokens → Found W)
-  → Comes p i0 (G ts) i ts (λ K. (sign s, d) ∷ F K)
-  → ((rest : Tokens) → ts ≡ Sign s ∷ rest → Comes p i0 (G (Sign s ∷ rest)) (suc i) rest F → Exact p i0 (G (Sign s ∷ rest)) (f (suc i, rest)))
-  → Exact p i0 (G ts) (expect (is_sign s) i ts >>= f)
+    → Comes p i0 (G ts) i ts (λ K. (sign s, d) ∷ F K)
+    → ((rest : Tokens) → ts ≡ Sign s ∷ rest → Comes p i0 (G (Sign s ∷ rest)) (suc i) rest F → Exact p i0 (G (Sign s ∷ rest)) (f (suc i, rest)))
+    → Exact p i0 (G ts) (expect (is_sign s) i ts >>= f)
 follow_sign {p} {i0} G {F} {d} {i} {ts = []} s f comes then = record { holds = λ K. comes.goes K }
 follow_sign {p} {i0} G {F} {d} {i} {ts = u ∷ us} s f comes then =
     token_by p i0 G F d i u us f (is_sign s) (Sign s) (sign s) (is_sign s u) refl (only_sign s u) refl refl comes then
@@ -189,7 +193,7 @@ chosen true first second = first refl
 chosen false first second = second refl
 
 dropped_by : (r : Rule) (b : Bool) (d i : ℕ) (us : Tokens) (K : Stack) (u : TokenKind) → b ≡ true → has_rule r ≡ false
-  → from_met i (λ b. refused_from (suc i) us b) (by_rule r b d K (meet u K)) ≡ from_met i (λ b. refused_from (suc i) us b) (meet u K)
+    → from_met i (λ b. refused_from (suc i) us b) (by_rule r b d K (meet u K)) ≡ from_met i (λ b. refused_from (suc i) us b) (meet u K)
 dropped_by no_rule true d i us K u e h = refl
 dropped_by no_rule false d i us K u e h = absurd (cc)
 dropped_by (takes then) b d i us K u e h = absurd (cc)
@@ -277,19 +281,21 @@ equal_began s more d i (u ∷ us) K same e = let h = ap has_rule (same u) in abs
 
 -- what one reader reads stands for what another says, behind what was read before
 pub turn : {V : Type 0} (q p : Phrase V) {i0 i : ℕ} (G : Tokens → Tokens) {ts : Tokens} {r : Found V} (m : q.Said → p.Said)
-  → Exact q i ts r
-  → Comes p i0 (G ts) i ts q.front
-  → ((x : q.Said) → q.Is x → p.Is (m x))
-  → ((x : q.Said) → q.tree i x ≡ p.tree i0 (m x))
-  → ((x : q.Said) → q.after i x ≡ p.after i0 (m x))
-  → ((x : q.Said) (k : Tokens) → G (q.spell x k) ≡ p.spell (m x) k)
-  → Exact p i0 (G ts) r
-turn q p {i0} {i} G {ts} {r = Ok x} m h comes is tree after spell = record { holds = record {
-  text = m h.holds.text;
-  is = is h.holds.text h.holds.is;
-  value = h.holds.value ∙ tree h.holds.text;
-  index = h.holds.index ∙ after h.holds.text;
-  spelled = ap G h.holds.spelled ∙ spell h.holds.text x.2;
-  goes = λ K. comes.goes K ∙ h.holds.goes K
-} }
+    → Exact q i ts r
+    → Comes p i0 (G ts) i ts q.front
+    → ((x : q.Said) → q.Is x → p.Is (m x))
+    → ((x : q.Said) → q.tree i x ≡ p.tree i0 (m x))
+    → ((x : q.Said) → q.after i x ≡ p.after i0 (m x))
+    → ((x : q.Said) (k : Tokens) → G (q.spell x k) ≡ p.spell (m x) k)
+    → Exact p i0 (G ts) r
+turn q p {i0} {i} G {ts} {r = Ok x} m h comes is tree after spell = record {
+  holds = record {
+    text = m h.holds.text;
+    is = is h.holds.text h.holds.is;
+    value = h.holds.value ∙ tree h.holds.text;
+    index = h.holds.index ∙ after h.holds.text;
+    spelled = ap G h.holds.spelled ∙ spell h.holds.text x.2;
+    goes = λ K. comes.goes K ∙ h.holds.goes K;
+  };
+}
 turn q p {i0} {i} G {ts} {r = Err f} m h comes is tree after spell = record { holds = λ K. comes.goes K ∙ h.holds K }

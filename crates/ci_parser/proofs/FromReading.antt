@@ -6,7 +6,7 @@ use Rattle.ci_tree.specs.Grammar.{Tokens, derives, nesting, spell_file, tree_fil
 use Rattle.ci_tree.specs.Refused.{Refusal, refused_at}
 use Rattle.ci_parser.specs.Reading.{items}
 use Rattle.ci_parser.specs.OfGrammar.{TreeOrRefused, OneTree}
-use Rattle.ci_parser.proofs.Items.{items_exact, FileExact}
+use Rattle.ci_parser.proofs.ExactItems.{items_exact, FileExact}
 use Rattle.ci_parser.proofs.AgainItems.{items_again}
 
 -- reading the tokens of a file

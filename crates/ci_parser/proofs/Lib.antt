@@ -1,10 +1,11 @@
 pub mod Exact
 pub mod Longer
-pub mod Expressions
-pub mod Members
-pub mod Statements
-pub mod Items
+pub mod ExactExpressions
+pub mod ExactMembers
+pub mod ExactStatements
+pub mod ExactItems
 pub mod Again
 pub mod AgainStatements
 pub mod AgainItems
 pub mod FromReading
+pub mod Loops

@@ -1,3 +1,4 @@
 pub mod Reading
 pub mod OfGrammar
 pub mod Gives
+pub mod Joints

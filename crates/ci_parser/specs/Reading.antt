@@ -115,12 +115,16 @@ abbrev pub deeper : {V : Type 0} → ℕ → Option (Reader Expr) → (Reader Ex
 deeper i None inside = Err (too_deep i)
 deeper i (Some base) inside = inside base
 
+-- a call of x, whose name is at this index, behind the parenthesis
+abbrev pub called : Reader Expr → (at : ℕ) → List ℕ → Reader Expr
+called inside at x i ts = do
+  args ← arguments (level_on inside 8) i ts
+  closed ← expect (is_sign mark.RightParen) args.1 args.2
+  Ok (to.expr at at (to.call x args.0), closed.0, closed.1)
+
 -- what stands behind a name: arguments or an index or nothing
 abbrev pub suffix : Option (Reader Expr) → (at : ℕ) → List ℕ → Reader Expr
-suffix base at x i (Sign mark.LeftParen ∷ ts) = deeper i base (λ inside. do
-  args ← arguments (level_on inside 8) (suc i) ts
-  closed ← expect (is_sign mark.RightParen) args.1 args.2
-  Ok (to.expr at at (to.call x args.0), closed.0, closed.1))
+suffix base at x i (Sign mark.LeftParen ∷ ts) = deeper i base (λ inside. called inside at x (suc i) ts)
 suffix base at x i (Sign mark.LeftBracket ∷ ts) = deeper i base (λ inside. do
   e ← level_on inside 8 (suc i) ts
   closed ← expect (is_sign mark.RightBracket) e.1 e.2
@@ -151,6 +155,11 @@ unary (suc free) = unary_on (Some (unary free))
 
 abbrev pub expression : ℕ → Reader Expr
 expression free = level_on (unary free) 8
+
+-- the reader of Unary with one level fewer, where a level is free
+abbrev pub base_of : ℕ → Option (Reader Expr)
+base_of zero = None
+base_of (suc free) = Some (unary free)
 
 -- Locals and labels
 
@@ -281,17 +290,17 @@ cases inside (suc fuel) i ts =
     (do
       word ← expect (is_keyword words.Case) i ts
       cond (begins_with words.Else word.1)
-        (do
-          else_word ← expect (is_keyword words.Else) word.0 word.1
-          b ← inside.body else_word.0 else_word.1
-          end_word ← expect (is_keyword words.End) b.1 b.2
-          select_word ← expect (is_keyword words.Select) end_word.0 end_word.1
-          Ok (record { clauses = to.no_clause; other = to.other b.0 }, select_word.0, select_word.1))
-        (do
-          labels ← members (label inside.expression) word.0 word.1
-          b ← inside.body labels.1 labels.2
-          behind ← cases inside fuel b.1 b.2
-          Ok (with_clause i labels.0 b.0 behind.0, behind.1, behind.2)))
+          (do
+            else_word ← expect (is_keyword words.Else) word.0 word.1
+            b ← inside.body else_word.0 else_word.1
+            end_word ← expect (is_keyword words.End) b.1 b.2
+            select_word ← expect (is_keyword words.Select) end_word.0 end_word.1
+            Ok (record { clauses = to.no_clause; other = to.other b.0 }, select_word.0, select_word.1))
+          (do
+            labels ← members (label inside.expression) word.0 word.1
+            b ← inside.body labels.1 labels.2
+            behind ← cases inside fuel b.1 b.2
+            Ok (with_clause i labels.0 b.0 behind.0, behind.1, behind.2)))
     (do
       end_word ← expect (is_keyword words.End) i ts
       select_word ← expect (is_keyword words.Select) end_word.0 end_word.1
@@ -513,3 +522,57 @@ items free (suc fuel) i (t ∷ ts) = do
   is ← item free i (t ∷ ts)
   others ← items free fuel is.1 is.2
   Ok (is.0 ++ others)
+
+-- Loops, as the code has them: a step finds one more member and the place behind it, or none
+
+abbrev pub Step : Type 0 → Type 0
+Step X = ℕ → Tokens → Result (Option (X × ℕ × Tokens)) Refusal
+
+-- what comes of a step: the members that another gathers behind it
+abbrev pub gathered : {X : Type 0} → ℕ → Tokens → Reader (List X) → Option (X × ℕ × Tokens) → Found (List X)
+gathered i ts behind None = Ok ([], i, ts)
+gathered i ts behind (Some x) = do
+  xs ← behind x.1 x.2
+  Ok (x.0 ∷ xs.0, xs.1, xs.2)
+
+abbrev pub gather : {X : Type 0} → Step X → ℕ → Reader (List X)
+gather step zero i ts = Ok ([], i, ts)
+gather step (suc fuel) i ts = do
+  x ← step i ts
+  gathered i ts (gather step fuel) x
+
+-- members that were gathered before, and those that are gathered now
+abbrev pub with_front : {X : Type 0} → List X → Found (List X) → Found (List X)
+with_front front found = do
+  xs ← found
+  Ok (front ++ xs.0, xs.1, xs.2)
+
+-- another value of what was found
+abbrev pub with_value : {X Y : Type 0} → (X → Y) → Found X → Found Y
+with_value f found = do
+  x ← found
+  Ok (f x.0, x.1, x.2)
+
+abbrev pub link_by : Reader Expr → ℕ → Tokens → Joint → Result (Option (to.Link × ℕ × Tokens)) Refusal
+link_by member i ts no_joint = Ok None
+link_by member i ts (by_operator op) = do
+  e ← member (suc i) ts
+  Ok (Some (to.operand_link i op e.0, e.1, e.2))
+link_by member i ts by_colon = do
+  count ← hashes_at (suc i) ts
+  Ok (Some (to.hashes_link i count.0, count.1, count.2))
+
+-- one more member of a chain of group n
+abbrev pub link_at : Reader Expr → ℕ → Step to.Link
+link_at member n i [] = Ok None
+link_at member n i (t ∷ ts) = link_by member i ts (joint n t)
+
+-- one more member behind a comma
+abbrev pub comma_step : {X : Type 0} → Reader X → Step X
+comma_step member i ts =
+    cond (begins (ask.sign mark.Comma) ts)
+    (do
+      comma ← expect (is_sign mark.Comma) i ts
+      m ← member comma.0 comma.1
+      Ok (Some m))
+    (Ok None)

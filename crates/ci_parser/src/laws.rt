@@ -4,11 +4,9 @@ ghost use Rattle.ci_parser.specs.OfGrammar.{TreeOrRefused, OneTree};
 /// Tokens have a tree exactly where none of them is refused.
 pub fn tree_or_refused()
     ensures { TreeOrRefused }
-{
-}
+{}
 
 /// Tokens have at most one tree.
 pub fn one_tree()
     ensures { OneTree }
-{
-}
+{}

@@ -3,8 +3,12 @@
 
 mod begins;
 mod cursor;
+mod expressions;
 mod fault;
+mod labels;
 mod laws;
+mod operators;
+mod variables;
 
 pub use fault::ParseFault;
 pub use laws::{one_tree, tree_or_refused};

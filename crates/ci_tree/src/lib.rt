@@ -9,6 +9,7 @@ mod tree;
 pub use project::{Project, TextList};
 pub use token::{Keyword, Sign, Token, TokenKind, TokenList};
 pub use tree::{
-    Clause, ClauseList, Const, Expr, ExprKind, ExprList, Item, ItemList, Label, LabelList, Length, Link, LinkList, LocalAt,
-    LocalAtList, Operator, Param, ParamList, Relation, Stmt, StmtList, TypeAt, TypeName,
+    Clause, ClauseList, Const, Expr, ExprKind, ExprList, Item, ItemList, Label, LabelList, Length,
+    Link, LinkList, LocalAt, LocalAtList, Operator, Param, ParamList, Relation, Stmt, StmtList,
+    TypeAt, TypeName,
 };

@@ -91,11 +91,7 @@ impl Expr {
     pub fn begun_at(self, start: u32) -> Expr
         ensures { expr_of result ≡ begun_at start (expr_of self) }
     {
-        let Expr {
-            start: _,
-            at,
-            what,
-        } = self;
+        let Expr { start: _, at, what } = self;
         Expr { start, at, what }
     }
 }
@@ -168,7 +164,14 @@ impl Stmt {
     }
 
     /// A FOR at this token.
-    pub fn count(at: u32, name_at: u32, name: Bytes, from: Expr, to: Expr, body: Items<Stmt>) -> Stmt
+    pub fn count(
+        at: u32,
+        name_at: u32,
+        name: Bytes,
+        from: Expr,
+        to: Expr,
+        body: Items<Stmt>,
+    ) -> Stmt
         ensures { stmt_of result ≡ tree.for at name_at name (expr_of from) (expr_of to) (block_of body) }
     {
         Stmt::For {
@@ -182,7 +185,12 @@ impl Stmt {
     }
 
     /// A SELECT at this token.
-    pub fn select(at: u32, subject: Expr, clauses: Items<Clause>, other: Option<Items<Stmt>>) -> Stmt
+    pub fn select(
+        at: u32,
+        subject: Expr,
+        clauses: Items<Clause>,
+        other: Option<Items<Stmt>>,
+    ) -> Stmt
         ensures { stmt_of result ≡ tree.select at (expr_of subject) (clauses_of clauses) (other_from (option_map block_of other)) }
     {
         Stmt::Select {

@@ -83,23 +83,48 @@ pub struct Expr {
 #[cycle(expressions)]
 #[derive(Debug, Drop)]
 pub enum ExprKind {
-    Number { value: i32 },
-    Literal { text: Bytes },
-    Name { name: Bytes },
-    Element { name: Bytes, index: Boxed<Expr> },
-    CallOf { name: Bytes, args: Items<Expr> },
+    Number {
+        value: i32,
+    },
+    Literal {
+        text: Bytes,
+    },
+    Name {
+        name: Bytes,
+    },
+    Element {
+        name: Bytes,
+        index: Boxed<Expr>,
+    },
+    CallOf {
+        name: Bytes,
+        args: Items<Expr>,
+    },
     /// `-` where `minus`, else `NOT`.
-    Unary { minus: bool, operand: Boxed<Expr> },
+    Unary {
+        minus: bool,
+        operand: Boxed<Expr>,
+    },
     /// Operands with operators of one group between them, grouped from the left.
-    Chain { first: Boxed<Expr>, rest: Items<Link> },
+    Chain {
+        first: Boxed<Expr>,
+        rest: Items<Link>,
+    },
 }
 
 /// One more member of a chain: an operator and its right operand, or `:` and its hashes.
 #[cycle(expressions)]
 #[derive(Debug, Drop)]
 pub enum Link {
-    Operand { at: u32, operator: Operator, operand: Expr },
-    Hashes { at: u32, count: u32 },
+    Operand {
+        at: u32,
+        operator: Operator,
+        operand: Expr,
+    },
+    Hashes {
+        at: u32,
+        count: u32,
+    },
 }
 
 /// The arguments of a call.
@@ -122,9 +147,18 @@ pub type LocalAtList = Items<LocalAt>;
 /// A label of a clause.
 #[derive(Debug, Drop)]
 pub enum Label {
-    One { value: Expr },
-    Range { low: Expr, high: Expr },
-    Is { at: u32, relation: Relation, value: Expr },
+    One {
+        value: Expr,
+    },
+    Range {
+        low: Expr,
+        high: Expr,
+    },
+    Is {
+        at: u32,
+        relation: Relation,
+        value: Expr,
+    },
 }
 
 /// The labels of a clause.
@@ -134,15 +168,53 @@ pub type LabelList = Items<Label>;
 #[cycle(statements)]
 #[derive(Debug, Drop)]
 pub enum Stmt {
-    Declare { at: u32, kind: TypeAt, locals: Items<LocalAt> },
+    Declare {
+        at: u32,
+        kind: TypeAt,
+        locals: Items<LocalAt>,
+    },
     /// `equals` is the token of its `=`.
-    Assign { at: u32, name: Bytes, index: Option<Expr>, equals: u32, value: Expr },
-    CallOf { at: u32, name: Bytes, args: Items<Expr> },
-    If { at: u32, test: Expr, body: Items<Stmt>, other: Option<Items<Stmt>> },
-    While { at: u32, test: Expr, body: Items<Stmt> },
-    For { at: u32, name_at: u32, name: Bytes, from: Expr, to: Expr, body: Items<Stmt> },
-    Select { at: u32, subject: Expr, clauses: Items<Clause>, other: Option<Items<Stmt>> },
-    Return { at: u32, value: Option<Expr> },
+    Assign {
+        at: u32,
+        name: Bytes,
+        index: Option<Expr>,
+        equals: u32,
+        value: Expr,
+    },
+    CallOf {
+        at: u32,
+        name: Bytes,
+        args: Items<Expr>,
+    },
+    If {
+        at: u32,
+        test: Expr,
+        body: Items<Stmt>,
+        other: Option<Items<Stmt>>,
+    },
+    While {
+        at: u32,
+        test: Expr,
+        body: Items<Stmt>,
+    },
+    For {
+        at: u32,
+        name_at: u32,
+        name: Bytes,
+        from: Expr,
+        to: Expr,
+        body: Items<Stmt>,
+    },
+    Select {
+        at: u32,
+        subject: Expr,
+        clauses: Items<Clause>,
+        other: Option<Items<Stmt>>,
+    },
+    Return {
+        at: u32,
+        value: Option<Expr>,
+    },
 }
 
 /// A clause of SELECT, and its `CASE`'s token.

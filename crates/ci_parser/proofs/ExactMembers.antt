@@ -11,7 +11,7 @@ use Rattle.ci_tree.specs.Refused.{Symbol, Stack, rule, refused_from, push, begin
 use Rattle.ci_tree.specs.Refused as ask
 use Rattle.ci_parser.specs.Reading.{Reader, others, members, local, label, begins_with}
 use Rattle.ci_parser.proofs.Exact.{Phrase, Exact, follow, finish, follow_keyword, follow_sign, chosen, dropped, empty, split_one, comma_began, comma_begins, equal_began}
-use Rattle.ci_parser.proofs.Expressions.{AllExact, level_phrase, name_phrase, name_exact, relation_phrase, relation_exact}
+use Rattle.ci_parser.proofs.ExactExpressions.{AllExact, level_phrase, name_phrase, name_exact, relation_phrase, relation_exact}
 
 -- { "," member }, for the symbol s
 abbrev pub others_phrase : {V : Type 0} → Phrase V → Symbol → ℕ → Phrase (List V)
@@ -25,42 +25,42 @@ members_phrase m s d = record {
   spell = λ x k. m.spell x.0 (spell_others m.spell x.1 k);
   after = λ i x. after_others m.after (m.after i x.0) x.1;
   tree = λ i x. m.tree i x.0 ∷ tree_others m.after m.tree (m.after i x.0) x.1;
-  front = λ K. m.front ((s, d) ∷ K)
+  front = λ K. m.front ((s, d) ∷ K);
 }
 
 others_exact : {V : Type 0} (m : Phrase V) (s : Symbol) (more : List Symbol) (d : ℕ) (member : Reader V)
-  → ((u : TokenKind) → rule s u ≡ comma_rule more u)
-  → ((K : Stack) → push d more K ≡ m.front ((s, d) ∷ K))
-  → can_be_empty s ≡ true
-  → ((x : m.Said) (k : Tokens) → length k ≤ length (m.spell x k))
-  → AllExact m member
-  → (fuel i : ℕ) (ts : Tokens) → length ts ≤ fuel → Exact (others_phrase m s d) i ts (others member fuel i ts)
+    → ((u : TokenKind) → rule s u ≡ comma_rule more u)
+    → ((K : Stack) → push d more K ≡ m.front ((s, d) ∷ K))
+    → can_be_empty s ≡ true
+    → ((x : m.Said) (k : Tokens) → length k ≤ length (m.spell x k))
+    → AllExact m member
+    → (fuel i : ℕ) (ts : Tokens) → length ts ≤ fuel → Exact (others_phrase m s d) i ts (others member fuel i ts)
 others_exact m s more d member same front full longer each zero i [] short = empty (others_phrase m s d) i [] [] s d tt refl refl (λ K. refl) full refl
 others_exact m s more d member same front full longer each zero i (t ∷ ts) short = absurd (omega arith)
 others_exact m s more d member same front full longer each (suc fuel) i ts short =
     chosen (begins (ask.sign mark.Comma) ts)
     (λ e. follow_sign (λ us. us) mark.Comma _
-      (record { goes = λ K. comma_began s more d i ts K same e ∙ ap (λ (k : Stack). refused_from i ts ((ask.sign mark.Comma, d) ∷ k)) (front K) })
-      (λ rest at comes. follow m (λ us. Sign mark.Comma ∷ us) _ (each (suc i) rest) comes
-        (λ c behind is spelled comes.
-          let shorter : length behind ≤ fuel = omega (arith, longer c behind, ap length spelled, ap length at) in
-          follow (others_phrase m s d) (λ us. Sign mark.Comma ∷ m.spell c us) _ (others_exact m s more d member same front full longer each fuel (m.after (suc i) c) behind shorter) comes
-          (λ r rest r_is spelled comes. finish (others_phrase m s d) (c ∷ r) (is, r_is) refl comes))))
+    (record { goes = λ K. comma_began s more d i ts K same e ∙ ap (λ (k : Stack). refused_from i ts ((ask.sign mark.Comma, d) ∷ k)) (front K) })
+    (λ rest at comes. follow m (λ us. Sign mark.Comma ∷ us) _ (each (suc i) rest) comes
+    (λ c behind is spelled comes.
+    let shorter : length behind ≤ fuel = omega (arith, longer c behind, ap length spelled, ap length at) in
+    follow (others_phrase m s d) (λ us. Sign mark.Comma ∷ m.spell c us) _ (others_exact m s more d member same front full longer each fuel (m.after (suc i) c) behind shorter) comes
+    (λ r rest r_is spelled comes. finish (others_phrase m s d) (c ∷ r) (is, r_is) refl comes))))
     (λ e. empty (others_phrase m s d) i ts [] s d tt refl refl (λ K. refl) full (comma_begins s more ts same ∙ e))
 
 pub members_exact : {V : Type 0} (m : Phrase V) (s : Symbol) (more : List Symbol) (d : ℕ) (member : Reader V)
-  → ((u : TokenKind) → rule s u ≡ comma_rule more u)
-  → ((K : Stack) → push d more K ≡ m.front ((s, d) ∷ K))
-  → can_be_empty s ≡ true
-  → ((x : m.Said) (k : Tokens) → length k ≤ length (m.spell x k))
-  → AllExact m member
-  → AllExact (members_phrase m s d) (members member)
+    → ((u : TokenKind) → rule s u ≡ comma_rule more u)
+    → ((K : Stack) → push d more K ≡ m.front ((s, d) ∷ K))
+    → can_be_empty s ≡ true
+    → ((x : m.Said) (k : Tokens) → length k ≤ length (m.spell x k))
+    → AllExact m member
+    → AllExact (members_phrase m s d) (members member)
 members_exact m s more d member same front full longer each i ts =
     follow m (λ us. us) _ (each i ts) (record { goes = λ K. refl })
     (λ c rest is spelled comes.
-      let short : length rest ≤ length rest = omega arith in
-      follow (others_phrase m s d) (λ us. m.spell c us) _ (others_exact m s more d member same front full longer each (length rest) (m.after i c) rest short) comes
-      (λ r rest r_is spelled comes. finish (members_phrase m s d) (c, r) (is, r_is) refl comes))
+    let short : length rest ≤ length rest = omega arith in
+    follow (others_phrase m s d) (λ us. m.spell c us) _ (others_exact m s more d member same front full longer each (length rest) (m.after i c) rest short) comes
+    (λ r rest r_is spelled comes. finish (members_phrase m s d) (c, r) (is, r_is) refl comes))
 
 -- Locals
 
@@ -71,11 +71,11 @@ pub local_exact : (d : ℕ) (expression : Reader to.Expr) → AllExact (level_ph
 local_exact d expression each i ts =
     follow (name_phrase d) (λ us. us) _ (name_exact d i ts) (record { goes = λ K. refl })
     (λ x rest is spelled comes. chosen (begins ask.local_end rest)
-      (λ e. follow_sign (λ us. Name x ∷ us) mark.Equal _
-        (record { goes = λ K. comes.goes K ∙ equal_began ask.local_end (ask.expression ∷ []) d (suc i) rest K (λ u. refl) e })
-        (λ rest at comes. follow (level_phrase 8 d) (λ us. Name x ∷ Sign mark.Equal ∷ us) _ (each (suc (suc i)) rest) comes
-          (λ c rest c_is spelled comes. finish (local_phrase d) (said.valued_local x c) c_is refl comes)))
-      (λ e. finish (local_phrase d) (said.plain_local x) tt refl (record { goes = λ K. comes.goes K ∙ dropped ask.local_end d (suc i) rest K refl e })))
+    (λ e. follow_sign (λ us. Name x ∷ us) mark.Equal _
+    (record { goes = λ K. comes.goes K ∙ equal_began ask.local_end (ask.expression ∷ []) d (suc i) rest K (λ u. refl) e })
+    (λ rest at comes. follow (level_phrase 8 d) (λ us. Name x ∷ Sign mark.Equal ∷ us) _ (each (suc (suc i)) rest) comes
+    (λ c rest c_is spelled comes. finish (local_phrase d) (said.valued_local x c) c_is refl comes)))
+    (λ e. finish (local_phrase d) (said.plain_local x) tt refl (record { goes = λ K. comes.goes K ∙ dropped ask.local_end d (suc i) rest K refl e })))
 
 -- Labels
 
@@ -101,12 +101,12 @@ pub label_exact : (d : ℕ) (expression : Reader to.Expr) → AllExact (level_ph
 label_exact d expression each i ts =
     chosen (begins_with words.Is ts)
     (λ e. follow_keyword (λ us. us) words.Is _ (record { goes = λ K. label_is d i ts K e })
-      (λ rest at comes. follow (relation_phrase d) (λ us. Keyword words.Is ∷ us) _ (relation_exact d (suc i) rest) comes
-        (λ r rest r_is spelled comes. follow (level_phrase 8 d) (λ us. Keyword words.Is ∷ relation_token r ∷ us) _ (each (suc (suc i)) rest) comes
-          (λ c rest c_is spelled comes. finish (label_phrase d) (said.compared r c) c_is refl comes))))
+    (λ rest at comes. follow (relation_phrase d) (λ us. Keyword words.Is ∷ us) _ (relation_exact d (suc i) rest) comes
+    (λ r rest r_is spelled comes. follow (level_phrase 8 d) (λ us. Keyword words.Is ∷ relation_token r ∷ us) _ (each (suc (suc i)) rest) comes
+    (λ c rest c_is spelled comes. finish (label_phrase d) (said.compared r c) c_is refl comes))))
     (λ e. follow (level_phrase 8 d) (λ us. us) _ (each i ts) (record { goes = λ K. label_value d i ts K e })
-      (λ low rest is spelled comes. chosen (begins ask.label_end rest)
-        (λ e. follow_keyword (λ us. spell_level low us) words.To _ (record { goes = λ K. comes.goes K ∙ label_end_to d (after_level i low) rest K e })
-          (λ rest at comes. follow (level_phrase 8 d) (λ us. spell_level low (Keyword words.To ∷ us)) _ (each (suc (after_level i low)) rest) comes
-            (λ high rest high_is spelled comes. finish (label_phrase d) (said.range low high) (is, high_is) refl comes)))
-        (λ e. finish (label_phrase d) (said.one low) is refl (record { goes = λ K. comes.goes K ∙ dropped ask.label_end d (after_level i low) rest K refl e }))))
+    (λ low rest is spelled comes. chosen (begins ask.label_end rest)
+    (λ e. follow_keyword (λ us. spell_level low us) words.To _ (record { goes = λ K. comes.goes K ∙ label_end_to d (after_level i low) rest K e })
+    (λ rest at comes. follow (level_phrase 8 d) (λ us. spell_level low (Keyword words.To ∷ us)) _ (each (suc (after_level i low)) rest) comes
+    (λ high rest high_is spelled comes. finish (label_phrase d) (said.range low high) (is, high_is) refl comes)))
+    (λ e. finish (label_phrase d) (said.one low) is refl (record { goes = λ K. comes.goes K ∙ dropped ask.label_end d (after_level i low) rest K refl e }))))

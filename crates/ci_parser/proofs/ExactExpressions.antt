@@ -72,10 +72,16 @@ relation_token_is (Sign mark.AtLeast) r e = let h : relations.AtLeast ≡ r = cc
 relation_token_is t r e = absurd (cc)
 
 type_by_exact : (d i : ℕ) (t : TokenKind) (ts : Tokens) (o : Option TypeName) → type_of_token t ≡ o → Exact (type_phrase d) i (t ∷ ts) (type_by i ts o)
-type_by_exact d i t ts (Some name) e = record { holds = record {
-  text = name; is = tt; value = refl; index = refl;
-  spelled = ap (λ u. u ∷ ts) (type_token_is t name e);
-  goes = λ K. ap (λ o. from_met i (λ b. refused_from (suc i) ts b) (by_rule (typed_or [] o ask.no_rule) false d K (meet t K))) e } }
+type_by_exact d i t ts (Some name) e = record {
+  holds = record {
+    text = name;
+    is = tt;
+    value = refl;
+    index = refl;
+    spelled = ap (λ u. u ∷ ts) (type_token_is t name e);
+    goes = λ K. ap (λ o. from_met i (λ b. refused_from (suc i) ts b) (by_rule (typed_or [] o ask.no_rule) false d K (meet t K))) e;
+  };
+}
 type_by_exact d i t ts None e = record { holds = λ K. ap (λ o. from_met i (λ b. refused_from (suc i) ts b) (by_rule (typed_or [] o ask.no_rule) false d K (meet t K))) e }
 
 pub type_exact : (d i : ℕ) (ts : Tokens) → Exact (type_phrase d) i ts (type_at i ts)
@@ -83,10 +89,16 @@ type_exact d i [] = record { holds = λ K. refl }
 type_exact d i (t ∷ ts) = type_by_exact d i t ts (type_of_token t) refl
 
 relation_by_exact : (d i : ℕ) (t : TokenKind) (ts : Tokens) (o : Option Relation) → relation_of_token t ≡ o → Exact (relation_phrase d) i (t ∷ ts) (relation_by i ts o)
-relation_by_exact d i t ts (Some r) e = record { holds = record {
-  text = r; is = tt; value = refl; index = refl;
-  spelled = ap (λ u. u ∷ ts) (relation_token_is t r e);
-  goes = λ K. ap (λ o. from_met i (λ b. refused_from (suc i) ts b) (by_rule (relation_rule o) false d K (meet t K))) e } }
+relation_by_exact d i t ts (Some r) e = record {
+  holds = record {
+    text = r;
+    is = tt;
+    value = refl;
+    index = refl;
+    spelled = ap (λ u. u ∷ ts) (relation_token_is t r e);
+    goes = λ K. ap (λ o. from_met i (λ b. refused_from (suc i) ts b) (by_rule (relation_rule o) false d K (meet t K))) e;
+  };
+}
 relation_by_exact d i t ts None e = record { holds = λ K. ap (λ o. from_met i (λ b. refused_from (suc i) ts b) (by_rule (relation_rule o) false d K (meet t K))) e }
 
 pub relation_exact : (d i : ℕ) (ts : Tokens) → Exact (relation_phrase d) i ts (relation_at i ts)
@@ -168,35 +180,42 @@ joint_colon n (Sign mark.Slash) e = absurd (operator_no_colon _ _ e)
 joint_colon n t e = absurd (cc)
 
 rest_meets : (n d i : ℕ) (t : TokenKind) (ts : Tokens) (j : Joint) → joint n t ≡ j → (K : Stack)
-  → refused_from i (t ∷ ts) ((ask.rest n, d) ∷ K) ≡ from_met i (λ b. refused_from (suc i) ts b) (by_rule (joint_rule n j) true d K (meet t K))
+    → refused_from i (t ∷ ts) ((ask.rest n, d) ∷ K) ≡ from_met i (λ b. refused_from (suc i) ts b) (by_rule (joint_rule n j) true d K (meet t K))
 rest_meets n d i t ts j e K = ap (λ j. from_met i (λ b. refused_from (suc i) ts b) (by_rule (joint_rule n j) true d K (meet t K))) e
 
 rest_by_exact : (n d : ℕ) (member : Reader to.Expr) (behind : Reader to.Links) (fuel i : ℕ) (t : TokenKind) (ts : Tokens) (j : Joint)
-  → AllExact (level_phrase n d) member
-  → ((i : ℕ) (ts : Tokens) → length ts ≤ fuel → Exact (rest_phrase n d) i ts (behind i ts))
-  → length ts ≤ fuel
-  → joint n t ≡ j
-  → Exact (rest_phrase n d) i (t ∷ ts) (rest_by member behind i ts t j)
-rest_by_exact n d member behind fuel i t ts no_joint each next short e = record { holds = record {
-  text = said.no_rest; is = tt; value = refl; index = refl; spelled = refl;
-  goes = λ K. rest_meets n d i t ts no_joint e K } }
+    → AllExact (level_phrase n d) member
+    → ((i : ℕ) (ts : Tokens) → length ts ≤ fuel → Exact (rest_phrase n d) i ts (behind i ts))
+    → length ts ≤ fuel
+    → joint n t ≡ j
+    → Exact (rest_phrase n d) i (t ∷ ts) (rest_by member behind i ts t j)
+rest_by_exact n d member behind fuel i t ts no_joint each next short e = record {
+  holds = record {
+    text = said.no_rest;
+    is = tt;
+    value = refl;
+    index = refl;
+    spelled = refl;
+    goes = λ K. rest_meets n d i t ts no_joint e K;
+  };
+}
 rest_by_exact n d member behind fuel i t ts (by_operator op) each next short e =
     let is = joint_operator n t op e in
     subst (λ (u : TokenKind). Comes (rest_phrase n d) i (u ∷ ts) (suc i) ts (λ K. (ask.level n, d) ∷ (ask.rest n, d) ∷ K) → Exact (rest_phrase n d) i (u ∷ ts) (member (suc i) ts >>= (λ e. behind e.1 e.2 >>= (λ links. Ok (to.operand i op e.0 links.0, links.1, links.2))))) (sym is.0)
     (λ comes. follow (level_phrase n d) (λ us. operator_token op ∷ us) _ (each (suc i) ts) comes
-      (λ c rest c_is spelled comes.
-        let shorter : length rest ≤ fuel = omega (arith, longer_level c rest, ap length spelled) in
-        follow (rest_phrase n d) (λ us. operator_token op ∷ spell_level c us) _ (next (after_level (suc i) c) rest shorter) comes
-        (λ r rest r_is spelled comes. finish (rest_phrase n d) (said.joined op c r) (is.1, c_is, r_is) refl comes)))
+    (λ c rest c_is spelled comes.
+    let shorter : length rest ≤ fuel = omega (arith, longer_level c rest, ap length spelled) in
+    follow (rest_phrase n d) (λ us. operator_token op ∷ spell_level c us) _ (next (after_level (suc i) c) rest shorter) comes
+    (λ r rest r_is spelled comes. finish (rest_phrase n d) (said.joined op c r) (is.1, c_is, r_is) refl comes)))
     (record { goes = λ K. rest_meets n d i t ts (by_operator op) e K })
 rest_by_exact n d member behind fuel i t ts by_colon each next short e =
     let is = joint_colon n t e in
     subst (λ (u : TokenKind). Comes (rest_phrase n d) i (u ∷ ts) (suc i) ts (λ K. (ask.hashes, d) ∷ (ask.rest n, d) ∷ K) → Exact (rest_phrase n d) i (u ∷ ts) (hashes_at (suc i) ts >>= (λ e. behind e.1 e.2 >>= (λ links. Ok (to.hashes i e.0 links.0, links.1, links.2))))) (sym is.0)
     (λ comes. follow (hashes_phrase d) (λ us. Sign mark.Colon ∷ us) _ (hashes_exact d (suc i) ts) comes
-      (λ c rest c_is spelled comes.
-        let shorter : length rest ≤ fuel = omega (arith, ap length spelled) in
-        follow (rest_phrase n d) (λ us. Sign mark.Colon ∷ Hashes c ∷ us) _ (next (suc (suc i)) rest shorter) comes
-        (λ r rest r_is spelled comes. finish (rest_phrase n d) (said.formed c r) (is.1, r_is) refl comes)))
+    (λ c rest c_is spelled comes.
+    let shorter : length rest ≤ fuel = omega (arith, ap length spelled) in
+    follow (rest_phrase n d) (λ us. Sign mark.Colon ∷ Hashes c ∷ us) _ (next (suc (suc i)) rest shorter) comes
+    (λ r rest r_is spelled comes. finish (rest_phrase n d) (said.formed c r) (is.1, r_is) refl comes)))
     (record { goes = λ K. rest_meets n d i t ts by_colon e K })
 
 pub rest_exact : (n d : ℕ) (member : Reader to.Expr) → AllExact (level_phrase n d) member → (fuel i : ℕ) (ts : Tokens) → length ts ≤ fuel → Exact (rest_phrase n d) i ts (rest member n fuel i ts)
@@ -221,9 +240,9 @@ level_exact d base each (suc n) i ts =
     follow (level_phrase n d) (λ us. us) _ (level_exact d base each n i ts)
     (record { goes = λ K. split (ask.level (suc n)) (ask.level n) (ask.rest n ∷ []) d i ts K (λ u. refl) refl refl })
     (λ c rest is spelled comes.
-      let short : length rest ≤ length rest = omega arith in
-      follow (rest_phrase n d) (λ us. spell_level c us) _ (rest_exact n d (level_on base n) (level_exact d base each n) (length rest) (after_level i c) rest short) comes
-      (λ r rest r_is spelled comes. finish (level_phrase (suc n) d) (said.group c r) (is, r_is) refl comes))
+    let short : length rest ≤ length rest = omega arith in
+    follow (rest_phrase n d) (λ us. spell_level c us) _ (rest_exact n d (level_on base n) (level_exact d base each n) (length rest) (after_level i c) rest short) comes
+    (λ r rest r_is spelled comes. finish (level_phrase (suc n) d) (said.group c r) (is, r_is) refl comes))
 
 -- Arguments
 
@@ -239,23 +258,23 @@ more_exact d member each zero i (t ∷ ts) short = absurd (omega arith)
 more_exact d member each (suc fuel) i ts short =
     chosen (begins (ask.sign mark.Comma) ts)
     (λ e. follow_sign (λ us. us) mark.Comma _
-      (record { goes = λ K. comma_began ask.more_arguments (ask.expression ∷ ask.more_arguments ∷ []) d i ts K (λ u. refl) e })
-      (λ rest at comes. follow (level_phrase 8 d) (λ us. Sign mark.Comma ∷ us) _ (each (suc i) rest) comes
-        (λ c behind is spelled comes.
-          let shorter : length behind ≤ fuel = omega (arith, longer_level c behind, ap length spelled, ap length at) in
-          follow (more_phrase d) (λ us. Sign mark.Comma ∷ spell_level c us) _ (more_exact d member each fuel (after_level (suc i) c) behind shorter) comes
-          (λ r rest r_is spelled comes. finish (more_phrase d) (said.comma_arg c r) (is, r_is) refl comes))))
+    (record { goes = λ K. comma_began ask.more_arguments (ask.expression ∷ ask.more_arguments ∷ []) d i ts K (λ u. refl) e })
+    (λ rest at comes. follow (level_phrase 8 d) (λ us. Sign mark.Comma ∷ us) _ (each (suc i) rest) comes
+    (λ c behind is spelled comes.
+    let shorter : length behind ≤ fuel = omega (arith, longer_level c behind, ap length spelled, ap length at) in
+    follow (more_phrase d) (λ us. Sign mark.Comma ∷ spell_level c us) _ (more_exact d member each fuel (after_level (suc i) c) behind shorter) comes
+    (λ r rest r_is spelled comes. finish (more_phrase d) (said.comma_arg c r) (is, r_is) refl comes))))
     (λ e. empty (more_phrase d) i ts said.no_more_args ask.more_arguments d tt refl refl (λ K. refl) refl (comma_begins ask.more_arguments (ask.expression ∷ ask.more_arguments ∷ []) ts (λ u. refl) ∙ e))
 
 pub args_exact : (d : ℕ) (member : Reader to.Expr) → AllExact (level_phrase 8 d) member → AllExact (args_phrase d) (arguments member)
 args_exact d member each i ts =
     chosen (begins ask.arguments ts)
     (λ e. follow (level_phrase 8 d) (λ us. us) _ (each i ts)
-      (record { goes = λ K. began ask.arguments ask.expression (ask.more_arguments ∷ []) d i ts K (λ u. refl) (sym (begins_as ask.arguments ask.expression (ask.more_arguments ∷ []) ts (λ u. refl)) ∙ e) })
-      (λ c rest is spelled comes.
-        let short : length rest ≤ length rest = omega arith in
-        follow (more_phrase d) (λ us. spell_level c us) _ (more_exact d member each (length rest) (after_level i c) rest short) comes
-        (λ r rest r_is spelled comes. finish (args_phrase d) (said.args c r) (is, r_is) refl comes)))
+    (record { goes = λ K. began ask.arguments ask.expression (ask.more_arguments ∷ []) d i ts K (λ u. refl) (sym (begins_as ask.arguments ask.expression (ask.more_arguments ∷ []) ts (λ u. refl)) ∙ e) })
+    (λ c rest is spelled comes.
+    let short : length rest ≤ length rest = omega arith in
+    follow (more_phrase d) (λ us. spell_level c us) _ (more_exact d member each (length rest) (after_level i c) rest short) comes
+    (λ r rest r_is spelled comes. finish (args_phrase d) (said.args c r) (is, r_is) refl comes)))
     (λ e. empty (args_phrase d) i ts said.no_args ask.arguments d tt refl refl (λ K. refl) refl e)
 
 -- Unary
@@ -269,10 +288,10 @@ BaseAt (suc d) (Some r) = AllExact (unary_phrase d) r
 
 -- what opens a level: refused where none is free
 pub deeper_exact : {V : Type 0} (P : ℕ → Phrase V) (i0 : ℕ) (ts0 : Tokens) (i d : ℕ) (base : Option (Reader to.Expr)) (inside : Reader to.Expr → Found V)
-  → BaseAt d base
-  → ((K : Stack) → refused_from i0 ts0 ((P zero).front K) ≡ Some (too_deep i))
-  → ((e : ℕ) (r : Reader to.Expr) → AllExact (unary_phrase e) r → Exact (P (suc e)) i0 ts0 (inside r))
-  → Exact (P d) i0 ts0 (deeper i base inside)
+    → BaseAt d base
+    → ((K : Stack) → refused_from i0 ts0 ((P zero).front K) ≡ Some (too_deep i))
+    → ((e : ℕ) (r : Reader to.Expr) → AllExact (unary_phrase e) r → Exact (P (suc e)) i0 ts0 (inside r))
+    → Exact (P d) i0 ts0 (deeper i base inside)
 deeper_exact P i0 ts0 i zero None inside at deep then = record { holds = deep }
 deeper_exact P i0 ts0 i zero (Some r) inside at deep then = absurd at
 deeper_exact P i0 ts0 i (suc d) None inside at deep then = absurd at
@@ -310,18 +329,18 @@ suffix_phrase at x d = record { Said = SuffixText; Is = λ s. IsUnary d (suffix_
 suffix_exact : (at : ℕ) (x : List ℕ) (d : ℕ) (base : Option (Reader to.Expr)) → BaseAt d base → AllExact (suffix_phrase at x d) (suffix base at x)
 suffix_exact at x d base is i (Sign mark.LeftParen ∷ ts) = deeper_exact (suffix_phrase at x) i (Sign mark.LeftParen ∷ ts) i d base _ is (λ K. refl)
     (λ e r each. follow (args_phrase e) (λ us. Sign mark.LeftParen ∷ us) _ (args_exact e (level_on r 8) (level_exact e r each 8) (suc i) ts) (record { goes = λ K. refl })
-      (λ a rest a_is spelled comes. follow_sign (λ us. Sign mark.LeftParen ∷ spell_args a us) mark.RightParen _ comes
-        (λ rest at comes. finish (suffix_phrase _ x (suc e)) (with_args a) a_is refl comes)))
+    (λ a rest a_is spelled comes. follow_sign (λ us. Sign mark.LeftParen ∷ spell_args a us) mark.RightParen _ comes
+    (λ rest at comes. finish (suffix_phrase _ x (suc e)) (with_args a) a_is refl comes)))
 suffix_exact at x d base is i (Sign mark.LeftBracket ∷ ts) = deeper_exact (suffix_phrase at x) i (Sign mark.LeftBracket ∷ ts) i d base _ is (λ K. refl)
     (λ e r each. follow (level_phrase 8 e) (λ us. Sign mark.LeftBracket ∷ us) _ (level_exact e r each 8 (suc i) ts) (record { goes = λ K. refl })
-      (λ c rest c_is spelled comes. follow_sign (λ us. Sign mark.LeftBracket ∷ spell_level c us) mark.RightBracket _ comes
-        (λ rest at comes. finish (suffix_phrase _ x (suc e)) (with_index c) c_is refl comes)))
+    (λ c rest c_is spelled comes. follow_sign (λ us. Sign mark.LeftBracket ∷ spell_level c us) mark.RightBracket _ comes
+    (λ rest at comes. finish (suffix_phrase _ x (suc e)) (with_index c) c_is refl comes)))
 suffix_exact at x d base is i ts = empty (suffix_phrase at x d) i ts plain ask.suffix d tt refl refl (λ K. refl) refl refl
 
 suffix_ok : (x : List ℕ) (d i : ℕ) (ts : Tokens) (s : SuffixText) (v : to.Expr) (j : ℕ) (rest : Tokens)
-  → IsUnary d (suffix_unary x s) → v ≡ suffix_tree i x (suc i) s → j ≡ suffix_after (suc i) s → ts ≡ suffix_spell s rest
-  → ((K : Stack) → refused_from (suc i) ts ((ask.suffix, d) ∷ K) ≡ refused_from j rest K)
-  → ReadAs (unary_phrase d) i (Name x ∷ ts) v j rest
+    → IsUnary d (suffix_unary x s) → v ≡ suffix_tree i x (suc i) s → j ≡ suffix_after (suc i) s → ts ≡ suffix_spell s rest
+    → ((K : Stack) → refused_from (suc i) ts ((ask.suffix, d) ∷ K) ≡ refused_from j rest K)
+    → ReadAs (unary_phrase d) i (Name x ∷ ts) v j rest
 suffix_ok x d i ts plain v j rest is value index spelled goes = record { text = said.name x; is = is; value = value; index = index; spelled = ap (λ k. Name x ∷ k) spelled; goes = goes }
 suffix_ok x d i ts (with_args a) v j rest is value index spelled goes = record { text = said.called x a; is = is; value = value; index = index; spelled = ap (λ k. Name x ∷ k) spelled; goes = goes }
 suffix_ok x d i ts (with_index e) v j rest is value index spelled goes = record { text = said.element x e; is = is; value = value; index = index; spelled = ap (λ k. Name x ∷ k) spelled; goes = goes }
@@ -334,16 +353,16 @@ unary_on_exact : (d : ℕ) (base : Option (Reader to.Expr)) → BaseAt d base �
 unary_on_exact d base is i [] = record { holds = λ K. refl }
 unary_on_exact d base is i (Sign mark.Minus ∷ ts) = deeper_exact unary_phrase i (Sign mark.Minus ∷ ts) i d base _ is (λ K. refl)
     (λ e r each. follow (unary_phrase e) (λ us. Sign mark.Minus ∷ us) _ (each (suc i) ts) (record { goes = λ K. refl })
-      (λ u rest u_is spelled comes. finish (unary_phrase (suc e)) (said.minus u) u_is refl comes))
+    (λ u rest u_is spelled comes. finish (unary_phrase (suc e)) (said.minus u) u_is refl comes))
 unary_on_exact d base is i (Keyword words.Not ∷ ts) = deeper_exact unary_phrase i (Keyword words.Not ∷ ts) i d base _ is (λ K. refl)
     (λ e r each. follow (unary_phrase e) (λ us. Keyword words.Not ∷ us) _ (each (suc i) ts) (record { goes = λ K. refl })
-      (λ u rest u_is spelled comes. finish (unary_phrase (suc e)) (said.not u) u_is refl comes))
+    (λ u rest u_is spelled comes. finish (unary_phrase (suc e)) (said.not u) u_is refl comes))
 unary_on_exact d base is i (Number v ∷ ts) = finish (unary_phrase d) (said.number v) tt refl (record { goes = λ K. refl })
 unary_on_exact d base is i (Text t ∷ ts) = finish (unary_phrase d) (said.text t) tt refl (record { goes = λ K. refl })
 unary_on_exact d base is i (Sign mark.LeftParen ∷ ts) = deeper_exact unary_phrase i (Sign mark.LeftParen ∷ ts) i d base _ is (λ K. refl)
     (λ e r each. follow (level_phrase 8 e) (λ us. Sign mark.LeftParen ∷ us) _ (level_exact e r each 8 (suc i) ts) (record { goes = λ K. refl })
-      (λ c rest c_is spelled comes. follow_sign (λ us. Sign mark.LeftParen ∷ spell_level c us) mark.RightParen _ comes
-        (λ rest at comes. finish (unary_phrase (suc e)) (said.parens c) c_is refl comes)))
+    (λ c rest c_is spelled comes. follow_sign (λ us. Sign mark.LeftParen ∷ spell_level c us) mark.RightParen _ comes
+    (λ rest at comes. finish (unary_phrase (suc e)) (said.parens c) c_is refl comes)))
 unary_on_exact d base is i (Name x ∷ ts) = named_exact x d i ts (suffix base i x (suc i) ts) (suffix_exact i x d base is (suc i) ts)
 unary_on_exact d base is i (t ∷ ts) = record { holds = λ K. refl }
 

@@ -16,9 +16,9 @@ use Rattle.ci_tree.specs.Refused.{Refusal, Symbol, Stack, rule, refused_from, fr
 use Rattle.ci_tree.specs.Refused as ask
 use Rattle.ci_parser.specs.Reading.{Found, Reader, ◌>>=◌, const, first_value, var_end, var, parameter, parameters, function_end, function, one_item, variables, typed, seen, scoped, plain_item, item_by, item, items, members, body}
 use Rattle.ci_parser.proofs.Exact.{Phrase, ReadAs, Exact, Comes, follow, finish, follow_keyword, follow_sign, chosen, dropped, empty, began, begins_as, split, split_one, equal_began, turn}
-use Rattle.ci_parser.proofs.Expressions.{AllExact, name_phrase, name_exact, number_phrase, number_exact, type_phrase, type_exact, type_token_is}
-use Rattle.ci_parser.proofs.Members.{members_phrase, members_exact}
-use Rattle.ci_parser.proofs.Statements.{body_phrase, body_exact}
+use Rattle.ci_parser.proofs.ExactExpressions.{AllExact, name_phrase, name_exact, number_phrase, number_exact, type_phrase, type_exact, type_token_is}
+use Rattle.ci_parser.proofs.ExactMembers.{members_phrase, members_exact}
+use Rattle.ci_parser.proofs.ExactStatements.{body_phrase, body_exact}
 use Rattle.ci_parser.proofs.Longer.{longer_var, longer_parameter, longer_others, longer_body, longer_definition}
 
 -- First values
@@ -59,8 +59,8 @@ first_exact : (d i : ℕ) (ts : Tokens) → Exact (first_phrase d) i ts (first_v
 first_exact d i ts =
     chosen (begins ask.first_value ts)
     (λ e. follow_sign (λ us. us) mark.Equal _ (record { goes = λ K. equal_began ask.first_value (ask.const ∷ []) d i ts K (λ u. refl) e })
-      (λ rest at comes. follow (const_phrase d) (λ us. Sign mark.Equal ∷ us) _ (const_exact d (suc i) rest) comes
-      (λ v rest is spelled comes. finish (first_phrase d) (a_first v) tt refl comes)))
+    (λ rest at comes. follow (const_phrase d) (λ us. Sign mark.Equal ∷ us) _ (const_exact d (suc i) rest) comes
+    (λ v rest is spelled comes. finish (first_phrase d) (a_first v) tt refl comes)))
     (λ e. empty (first_phrase d) i ts no_first ask.first_value d tt refl refl (λ K. refl) refl e)
 
 -- Variables
@@ -79,8 +79,8 @@ var_scalar d i (Sign mark.LeftBracket ∷ us) K e = absurd (cc)
 var_scalar d i (u ∷ us) K e = refl
 
 scalar_finish : (global : Bool) (kind : TypeAt) (d i : ℕ) (x : List ℕ) (v : FirstText) (rest : Tokens)
-  → Comes (var_phrase global kind d) i (Name x ∷ first_spell v rest) (first_after (suc i) v) rest (λ K. K)
-  → Exact (var_phrase global kind d) i (Name x ∷ first_spell v rest) (Ok (to.variable i x global kind None (first_tree (suc i) v), first_after (suc i) v, rest))
+    → Comes (var_phrase global kind d) i (Name x ∷ first_spell v rest) (first_after (suc i) v) rest (λ K. K)
+    → Exact (var_phrase global kind d) i (Name x ∷ first_spell v rest) (Ok (to.variable i x global kind None (first_tree (suc i) v), first_after (suc i) v, rest))
 scalar_finish global kind d i x no_first rest comes = finish (var_phrase global kind d) (said.plain_var x) tt refl comes
 scalar_finish global kind d i x (a_first v) rest comes = finish (var_phrase global kind d) (said.valued_var x v) tt refl comes
 
@@ -88,12 +88,12 @@ var_exact : (global : Bool) (kind : TypeAt) (d : ℕ) → AllExact (var_phrase g
 var_exact global kind d i ts =
     follow (name_phrase d) (λ us. us) _ (name_exact d i ts) (record { goes = λ K. refl })
     (λ x rest is spelled comes. chosen (begins (ask.sign mark.LeftBracket) rest)
-      (λ e. follow_sign (λ us. Name x ∷ us) mark.LeftBracket _ (record { goes = λ K. comes.goes K ∙ var_array d (suc i) rest K e })
-        (λ rest at comes. follow (number_phrase d) (λ us. Name x ∷ Sign mark.LeftBracket ∷ us) _ (number_exact d (suc (suc i)) rest) comes
-        (λ n rest n_is spelled comes. follow_sign (λ us. Name x ∷ Sign mark.LeftBracket ∷ Number n ∷ us) mark.RightBracket _ comes
-        (λ rest at comes. finish (var_phrase global kind d) (said.array_var x n) tt refl comes))))
-      (λ e. follow (first_phrase d) (λ us. Name x ∷ us) _ (first_exact d (suc i) rest) (record { goes = λ K. comes.goes K ∙ var_scalar d (suc i) rest K e })
-        (λ v rest v_is spelled comes. scalar_finish global kind d i x v rest comes)))
+    (λ e. follow_sign (λ us. Name x ∷ us) mark.LeftBracket _ (record { goes = λ K. comes.goes K ∙ var_array d (suc i) rest K e })
+    (λ rest at comes. follow (number_phrase d) (λ us. Name x ∷ Sign mark.LeftBracket ∷ us) _ (number_exact d (suc (suc i)) rest) comes
+    (λ n rest n_is spelled comes. follow_sign (λ us. Name x ∷ Sign mark.LeftBracket ∷ Number n ∷ us) mark.RightBracket _ comes
+    (λ rest at comes. finish (var_phrase global kind d) (said.array_var x n) tt refl comes))))
+    (λ e. follow (first_phrase d) (λ us. Name x ∷ us) _ (first_exact d (suc i) rest) (record { goes = λ K. comes.goes K ∙ var_scalar d (suc i) rest K e })
+    (λ v rest v_is spelled comes. scalar_finish global kind d i x v rest comes)))
 
 -- Parameters
 
@@ -105,8 +105,8 @@ typed_split s more r (Some t) e = e
 typed_split s more r None e = e
 
 parameter_finish : (d i : ℕ) (t : TypeName) (x : List ℕ) (v : FirstText) (rest : Tokens)
-  → Comes (parameter_phrase d) i (type_token t ∷ Name x ∷ first_spell v rest) (first_after (suc (suc i)) v) rest (λ K. K)
-  → Exact (parameter_phrase d) i (type_token t ∷ Name x ∷ first_spell v rest) (Ok (record { at = suc i; name = x; kind = record { at = i; name = t }; first = first_tree (suc (suc i)) v }, first_after (suc (suc i)) v, rest))
+    → Comes (parameter_phrase d) i (type_token t ∷ Name x ∷ first_spell v rest) (first_after (suc (suc i)) v) rest (λ K. K)
+    → Exact (parameter_phrase d) i (type_token t ∷ Name x ∷ first_spell v rest) (Ok (record { at = suc i; name = x; kind = record { at = i; name = t }; first = first_tree (suc (suc i)) v }, first_after (suc (suc i)) v, rest))
 parameter_finish d i t x no_first rest comes = finish (parameter_phrase d) (said.plain_parameter t x) tt refl comes
 parameter_finish d i t x (a_first v) rest comes = finish (parameter_phrase d) (said.valued_parameter t x v) tt refl comes
 
@@ -129,8 +129,8 @@ parameters_exact : (d : ℕ) → AllExact (parameters_phrase d) parameters
 parameters_exact d i ts =
     chosen (begins ask.parameters ts)
     (λ e. members_parameters d i ts (members parameter i ts)
-      (members_exact (parameter_phrase d) ask.more_parameters (ask.parameter ∷ ask.more_parameters ∷ []) d parameter (λ u. refl) (λ K. refl) refl longer_parameter (parameter_exact d) i ts)
-      (λ K. began ask.parameters ask.parameter (ask.more_parameters ∷ []) d i ts K (λ u. refl) (sym (begins_as ask.parameters ask.parameter (ask.more_parameters ∷ []) ts (λ u. refl)) ∙ e)))
+    (members_exact (parameter_phrase d) ask.more_parameters (ask.parameter ∷ ask.more_parameters ∷ []) d parameter (λ u. refl) (λ K. refl) refl longer_parameter (parameter_exact d) i ts)
+    (λ K. began ask.parameters ask.parameter (ask.more_parameters ∷ []) d i ts K (λ u. refl) (sym (begins_as ask.parameters ask.parameter (ask.more_parameters ∷ []) ts (λ u. refl)) ∙ e)))
     (λ e. empty (parameters_phrase d) i ts said.no_parameters ask.parameters d tt refl refl (λ K. refl) refl e)
 
 -- Functions
@@ -164,7 +164,7 @@ variables_phrase global kind d = record {
   spell = λ x k. spell_var x.0 (spell_others spell_var x.1 (Sign mark.Semicolon ∷ k));
   after = λ i x. suc (after_others after_var (after_var i x.0) x.1);
   tree = λ i x. tree_var global kind i x.0 ∷ tree_others after_var (tree_var global kind) (after_var i x.0) x.1;
-  front = λ K. (ask.name, d) ∷ (ask.var_end, d) ∷ (ask.more_vars, d) ∷ (ask.sign mark.Semicolon, d) ∷ K
+  front = λ K. (ask.name, d) ∷ (ask.var_end, d) ∷ (ask.more_vars, d) ∷ (ask.sign mark.Semicolon, d) ∷ K;
 }
 
 variables_exact : (global : Bool) (kind : TypeAt) (d : ℕ) → AllExact (variables_phrase global kind d) (variables global kind)
@@ -192,11 +192,11 @@ typed_exact : (kind : TypeName) (d i : ℕ) (ts : Tokens) → Comes (item_phrase
 typed_exact kind d i ts comes =
     chosen (begins ask.name ts)
     (λ e. turn (variables_phrase false (record { at = i; name = kind }) d) (item_phrase d) (λ us. type_token kind ∷ us) (λ x. said.variables kind x.0 x.1)
-      (variables_exact false (record { at = i; name = kind }) d (suc i) ts)
-      (record { goes = λ K. comes.goes K ∙ typed_name d (suc i) ts K e }) (λ x is. tt) (λ x. refl) (λ x. refl) (λ x k. refl))
+    (variables_exact false (record { at = i; name = kind }) d (suc i) ts)
+    (record { goes = λ K. comes.goes K ∙ typed_name d (suc i) ts K e }) (λ x is. tt) (λ x. refl) (λ x. refl) (λ x k. refl))
     (λ e. follow (function_phrase false (Some (record { at = i; name = kind })) d) (λ us. type_token kind ∷ us) _ (function_exact d false (Some (record { at = i; name = kind })) (suc i) ts)
-      (record { goes = λ K. comes.goes K ∙ typed_function d (suc i) ts K e })
-      (λ f rest f_is spelled comes. finish (item_phrase d) (said.typed_function kind f) f_is refl comes))
+    (record { goes = λ K. comes.goes K ∙ typed_function d (suc i) ts K e })
+    (λ f rest f_is spelled comes. finish (item_phrase d) (said.typed_function kind f) f_is refl comes))
 
 seen_type : (d i : ℕ) (t : TokenKind) (us : Tokens) (K : Stack) (o : Option TypeName) → type_of_token t ≡ o → has_rule (typed_or [] o no_rule) ≡ true → refused_from i (t ∷ us) ((ask.seen, d) ∷ K) ≡ refused_from i (t ∷ us) ((ask.type, d) ∷ (ask.function, d) ∷ K)
 seen_type d i t us K (Some kind) e h =
@@ -220,16 +220,16 @@ seen_exact : (private : Bool) (d i : ℕ) (ts : Tokens) → Comes (item_phrase d
 seen_exact private d i ts comes =
     chosen (begins ask.type ts)
     (λ e. follow (type_phrase d) (λ us. seen_token private ∷ us) _ (type_exact d (suc i) ts) (record { goes = λ K. comes.goes K ∙ seen_typed d (suc i) ts K e })
-      (λ t rest t_is spelled comes. follow (function_phrase private (Some (record { at = suc i; name = t })) d) (λ us. seen_token private ∷ type_token t ∷ us) _ (function_exact d private (Some (record { at = suc i; name = t })) (suc (suc i)) rest) comes
-      (λ f rest f_is spelled comes. finish (item_phrase d) (said.seen_typed_function private t f) f_is refl comes)))
+    (λ t rest t_is spelled comes. follow (function_phrase private (Some (record { at = suc i; name = t })) d) (λ us. seen_token private ∷ type_token t ∷ us) _ (function_exact d private (Some (record { at = suc i; name = t })) (suc (suc i)) rest) comes
+    (λ f rest f_is spelled comes. finish (item_phrase d) (said.seen_typed_function private t f) f_is refl comes)))
     (λ e. follow (function_phrase private None d) (λ us. seen_token private ∷ us) _ (function_exact d private None (suc i) ts) (record { goes = λ K. comes.goes K ∙ seen_untyped d (suc i) ts K e })
-      (λ f rest f_is spelled comes. finish (item_phrase d) (said.seen_function private f) f_is refl comes))
+    (λ f rest f_is spelled comes. finish (item_phrase d) (said.seen_function private f) f_is refl comes))
 
 scoped_exact : (global : Bool) (d i : ℕ) (ts : Tokens) → Comes (item_phrase d) i (scope_token global ∷ ts) (suc i) ts (λ K. (ask.type, d) ∷ (ask.name, d) ∷ (ask.var_end, d) ∷ (ask.more_vars, d) ∷ (ask.sign mark.Semicolon, d) ∷ K) → Exact (item_phrase d) i (scope_token global ∷ ts) (scoped global (suc i) ts)
 scoped_exact global d i ts comes =
     follow (type_phrase d) (λ us. scope_token global ∷ us) _ (type_exact d (suc i) ts) comes
     (λ t rest t_is spelled comes. turn (variables_phrase global (record { at = suc i; name = t }) d) (item_phrase d) (λ us. scope_token global ∷ type_token t ∷ us) (λ x. said.scoped_variables global t x.0 x.1)
-      (variables_exact global (record { at = suc i; name = t }) d (suc (suc i)) rest) comes (λ x is. tt) (λ x. refl) (λ x. refl) (λ x k. refl))
+    (variables_exact global (record { at = suc i; name = t }) d (suc (suc i)) rest) comes (λ x is. tt) (λ x. refl) (λ x. refl) (λ x k. refl))
 
 plain_item_exact : (d i : ℕ) (t : TokenKind) (ts : Tokens) → type_of_token t ≡ None → Exact (item_phrase d) i (t ∷ ts) (plain_item d i (t ∷ ts))
 plain_item_exact d i (Sign mark.Semicolon) ts none = finish (item_phrase d) said.blank tt refl (record { goes = λ K. refl })
@@ -290,23 +290,23 @@ items_split d i t ts false e = items_refused d i t ts e
 
 -- the items behind the first are added to it
 add_items : (d i : ℕ) (ts : Tokens) (text : said.Definition) (is : List to.Item) (j : ℕ) (rest : Tokens) (others : Result (List to.Item) Refusal)
-  → IsDefinition d text → is ≡ tree_definition i text → j ≡ after_definition i text → ts ≡ spell_definition text rest
-  → refused_from i ts ((ask.items, d) ∷ []) ≡ refused_from j rest ((ask.items, d) ∷ [])
-  → FileExact d j rest others
-  → FileExact d i ts (others >>= (λ more. Ok (is ++ more)))
+    → IsDefinition d text → is ≡ tree_definition i text → j ≡ after_definition i text → ts ≡ spell_definition text rest
+    → refused_from i ts ((ask.items, d) ∷ []) ≡ refused_from j rest ((ask.items, d) ∷ [])
+    → FileExact d j rest others
+    → FileExact d i ts (others >>= (λ more. Ok (is ++ more)))
 add_items d i ts text is j rest (Ok more) t_is value index spelled goes h = record {
   file = text ∷ h.file;
   within = (t_is, h.within);
   spelled = spelled ∙ ap (spell_definition text) h.spelled;
   means = ap (λ x. x ++ more) value ∙ ap (λ m. tree_definition i text ++ m) (h.means ∙ ap (λ k. tree_file k h.file) index);
-  passes = goes ∙ h.passes
+  passes = goes ∙ h.passes;
 }
 add_items d i ts text is j rest (Err f) t_is value index spelled goes h = goes ∙ h
 
 add_item : (d fuel i : ℕ) (t : TokenKind) (ts : Tokens) (r : Found (List to.Item)) → Exact (item_phrase d) i (t ∷ ts) r
-  → ((j : ℕ) (rest : Tokens) → length rest ≤ fuel → FileExact d j rest (items d fuel j rest))
-  → length (t ∷ ts) ≤ suc fuel
-  → FileExact d i (t ∷ ts) (r >>= (λ is. items d fuel is.1 is.2 >>= (λ more. Ok (is.0 ++ more))))
+    → ((j : ℕ) (rest : Tokens) → length rest ≤ fuel → FileExact d j rest (items d fuel j rest))
+    → length (t ∷ ts) ≤ suc fuel
+    → FileExact d i (t ∷ ts) (r >>= (λ is. items d fuel is.1 is.2 >>= (λ more. Ok (is.0 ++ more))))
 add_item d fuel i t ts (Ok x) h next short =
     let shorter : length x.2 ≤ fuel = omega (arith, longer_definition h.holds.text x.2, ap length h.holds.spelled) in
     add_items d i (t ∷ ts) h.holds.text x.0 x.1 x.2 (items d fuel x.1 x.2) h.holds.is h.holds.value h.holds.index h.holds.spelled

@@ -13,8 +13,8 @@ use Rattle.ci_tree.specs.Refused.{Symbol, Stack, too_deep, rule, refused_from, f
 use Rattle.ci_tree.specs.Refused as ask
 use Rattle.ci_parser.specs.Reading.{Found, Reader, ◌>>=◌, Inside, opened, else_part, choice, loop, count, cases, selection, tail, returned, closed, some_stmt, plain_statement, declared, statement_by, statement, statements, body, expression, local, label, begins_with}
 use Rattle.ci_parser.proofs.Exact.{Phrase, ReadAs, Exact, Comes, follow, finish, follow_keyword, follow_sign, chosen, dropped, empty, began, begins_as, split_one}
-use Rattle.ci_parser.proofs.Expressions.{AllExact, level_phrase, args_phrase, args_exact, name_phrase, name_exact, type_token_is, expression_exact}
-use Rattle.ci_parser.proofs.Members.{members_phrase, members_exact, local_phrase, local_exact, label_phrase, label_exact}
+use Rattle.ci_parser.proofs.ExactExpressions.{AllExact, level_phrase, args_phrase, args_exact, name_phrase, name_exact, type_token_is, expression_exact}
+use Rattle.ci_parser.proofs.ExactMembers.{members_phrase, members_exact, local_phrase, local_exact, label_phrase, label_exact}
 use Rattle.ci_parser.proofs.Longer.{longer_local, longer_label, longer_others, longer_body, longer_then}
 
 abbrev pub body_phrase : ℕ → Phrase to.Block
@@ -32,10 +32,10 @@ InsideAt (suc d) None = ⊥
 InsideAt (suc d) (Some inside) = InsideExact d inside
 
 opened_exact : {V : Type 0} (P : ℕ → Phrase V) (i0 : ℕ) (ts0 : Tokens) (i d : ℕ) (inside : Option Inside) (read : Inside → Found V)
-  → InsideAt d inside
-  → ((K : Stack) → refused_from i0 ts0 ((P zero).front K) ≡ Some (too_deep i))
-  → ((e : ℕ) (w : Inside) → InsideExact e w → Exact (P (suc e)) i0 ts0 (read w))
-  → Exact (P d) i0 ts0 (opened i inside read)
+    → InsideAt d inside
+    → ((K : Stack) → refused_from i0 ts0 ((P zero).front K) ≡ Some (too_deep i))
+    → ((e : ℕ) (w : Inside) → InsideExact e w → Exact (P (suc e)) i0 ts0 (read w))
+    → Exact (P d) i0 ts0 (opened i inside read)
 opened_exact P i0 ts0 i zero None read at deep then = record { holds = deep }
 opened_exact P i0 ts0 i zero (Some w) read at deep then = absurd at
 opened_exact P i0 ts0 i (suc d) None read at deep then = absurd at
@@ -55,8 +55,8 @@ else_exact : (d : ℕ) (w : Inside) → InsideExact d w → AllExact (else_phras
 else_exact d w each i ts =
     chosen (begins ask.else ts)
     (λ e. follow_keyword (λ us. us) words.Else _ (record { goes = λ K. else_began d i ts K e })
-      (λ rest at comes. follow (body_phrase d) (λ us. Keyword words.Else ∷ us) _ (each.body (suc i) rest) comes
-        (λ b rest is spelled comes. finish (else_phrase d) (said.else b) is refl comes)))
+    (λ rest at comes. follow (body_phrase d) (λ us. Keyword words.Else ∷ us) _ (each.body (suc i) rest) comes
+    (λ b rest is spelled comes. finish (else_phrase d) (said.else b) is refl comes)))
     (λ e. empty (else_phrase d) i ts said.no_else ask.else d tt refl refl (λ K. refl) refl e)
 
 -- IF, WHILE and FOR, behind their words
@@ -68,7 +68,7 @@ choice_phrase at d = record {
   spell = λ x k. spell_level x.0 (Keyword words.Then ∷ spell_body x.1 (spell_else x.2 (Keyword words.End ∷ k)));
   after = λ i x. suc (after_else (after_body (suc (after_level i x.0)) x.1) x.2);
   tree = λ i x. to.choose at (tree_level i x.0) (tree_body (suc (after_level i x.0)) x.1) (tree_else (after_body (suc (after_level i x.0)) x.1) x.2);
-  front = λ K. (ask.expression, d) ∷ (ask.keyword words.Then, d) ∷ (ask.body, d) ∷ (ask.else, d) ∷ (ask.keyword words.End, d) ∷ K
+  front = λ K. (ask.expression, d) ∷ (ask.keyword words.Then, d) ∷ (ask.body, d) ∷ (ask.else, d) ∷ (ask.keyword words.End, d) ∷ K;
 }
 
 choice_exact : (at d : ℕ) (w : Inside) → InsideExact d w → AllExact (choice_phrase at d) (choice at w)
@@ -87,7 +87,7 @@ loop_phrase at d = record {
   spell = λ x k. spell_level x.0 (Keyword words.Do ∷ spell_body x.1 (Keyword words.End ∷ k));
   after = λ i x. suc (after_body (suc (after_level i x.0)) x.1);
   tree = λ i x. to.while at (tree_level i x.0) (tree_body (suc (after_level i x.0)) x.1);
-  front = λ K. (ask.expression, d) ∷ (ask.keyword words.Do, d) ∷ (ask.body, d) ∷ (ask.keyword words.End, d) ∷ K
+  front = λ K. (ask.expression, d) ∷ (ask.keyword words.Do, d) ∷ (ask.body, d) ∷ (ask.keyword words.End, d) ∷ K;
 }
 
 loop_exact : (at d : ℕ) (w : Inside) → InsideExact d w → AllExact (loop_phrase at d) (loop at w)
@@ -105,7 +105,7 @@ count_phrase at d = record {
   spell = λ x k. Name x.0 ∷ Sign mark.Equal ∷ spell_level x.1 (Keyword words.To ∷ spell_level x.2 (Keyword words.Do ∷ spell_body x.3 (Keyword words.End ∷ k)));
   after = λ i x. suc (after_body (suc (after_level (suc (after_level (suc (suc i)) x.1)) x.2)) x.3);
   tree = λ i x. to.for at i x.0 (tree_level (suc (suc i)) x.1) (tree_level (suc (after_level (suc (suc i)) x.1)) x.2) (tree_body (suc (after_level (suc (after_level (suc (suc i)) x.1)) x.2)) x.3);
-  front = λ K. (ask.name, d) ∷ (ask.sign mark.Equal, d) ∷ (ask.expression, d) ∷ (ask.keyword words.To, d) ∷ (ask.expression, d) ∷ (ask.keyword words.Do, d) ∷ (ask.body, d) ∷ (ask.keyword words.End, d) ∷ K
+  front = λ K. (ask.name, d) ∷ (ask.sign mark.Equal, d) ∷ (ask.expression, d) ∷ (ask.keyword words.To, d) ∷ (ask.expression, d) ∷ (ask.keyword words.Do, d) ∷ (ask.body, d) ∷ (ask.keyword words.End, d) ∷ K;
 }
 
 count_exact : (at d : ℕ) (w : Inside) → InsideExact d w → AllExact (count_phrase at d) (count at w)
@@ -150,23 +150,23 @@ cases_exact d w each zero i ts short = absurd (omega arith)
 cases_exact d w each (suc fuel) i ts short =
     chosen (begins_with words.Case ts)
     (λ e. follow_keyword (λ us. us) words.Case _ (record { goes = λ K. cases_case d i ts K e })
-      (λ rest at1 comes1. chosen (begins_with words.Else rest)
-        (λ e. follow_keyword (λ us. Keyword words.Case ∷ us) words.Else _ (record { goes = λ K. comes1.goes K ∙ case_else d (suc i) rest K e })
-          (λ rest at comes. follow (body_phrase d) (λ us. Keyword words.Case ∷ Keyword words.Else ∷ us) _ (each.body (suc (suc i)) rest) comes
-          (λ b rest b_is spelled comes. follow_keyword (λ us. Keyword words.Case ∷ Keyword words.Else ∷ spell_body b us) words.End _ comes
-          (λ rest at comes. follow_keyword (λ us. Keyword words.Case ∷ Keyword words.Else ∷ spell_body b (Keyword words.End ∷ us)) words.Select _ comes
-          (λ rest at comes. finish (cases_phrase d) (said.case_else b) b_is refl comes)))))
-        (λ e. follow (members_phrase (label_phrase d) ask.more_labels d) (λ us. Keyword words.Case ∷ us) _
-            (members_exact (label_phrase d) ask.more_labels (ask.label ∷ ask.more_labels ∷ []) d (label w.expression) (λ u. refl) (λ K. refl) refl longer_label (label_exact d w.expression each.expression) (suc i) rest)
-            (record { goes = λ K. comes1.goes K ∙ case_label d (suc i) rest K e })
-          (λ ls rest2 ls_is spelled2 comes. follow (body_phrase d) (λ us. Keyword words.Case ∷ spell_label ls.0 (spell_others spell_label ls.1 us)) _ (each.body (after_others after_label (after_label (suc i) ls.0) ls.1) rest2) comes
-          (λ b rest3 b_is spelled3 comes.
-            let shorter : suc (length rest3) ≤ fuel = omega (arith, longer_label ls.0 (spell_others spell_label ls.1 rest2), longer_others spell_label longer_label ls.1 rest2, longer_body b rest3, ap length spelled2, ap length spelled3, ap length at1) in
-            follow (cases_phrase d) (λ us. Keyword words.Case ∷ spell_label ls.0 (spell_others spell_label ls.1 (spell_body b us))) _ (cases_exact d w each fuel (after_body (after_others after_label (after_label (suc i) ls.0) ls.1) b) rest3 shorter) comes
-            (λ c rest c_is spelled comes. finish (cases_phrase d) (said.case ls.0 ls.1 b c) (ls_is.0, ls_is.1, b_is, c_is) refl comes))))))
+    (λ rest at1 comes1. chosen (begins_with words.Else rest)
+    (λ e. follow_keyword (λ us. Keyword words.Case ∷ us) words.Else _ (record { goes = λ K. comes1.goes K ∙ case_else d (suc i) rest K e })
+    (λ rest at comes. follow (body_phrase d) (λ us. Keyword words.Case ∷ Keyword words.Else ∷ us) _ (each.body (suc (suc i)) rest) comes
+    (λ b rest b_is spelled comes. follow_keyword (λ us. Keyword words.Case ∷ Keyword words.Else ∷ spell_body b us) words.End _ comes
+    (λ rest at comes. follow_keyword (λ us. Keyword words.Case ∷ Keyword words.Else ∷ spell_body b (Keyword words.End ∷ us)) words.Select _ comes
+    (λ rest at comes. finish (cases_phrase d) (said.case_else b) b_is refl comes)))))
+    (λ e. follow (members_phrase (label_phrase d) ask.more_labels d) (λ us. Keyword words.Case ∷ us) _
+    (members_exact (label_phrase d) ask.more_labels (ask.label ∷ ask.more_labels ∷ []) d (label w.expression) (λ u. refl) (λ K. refl) refl longer_label (label_exact d w.expression each.expression) (suc i) rest)
+    (record { goes = λ K. comes1.goes K ∙ case_label d (suc i) rest K e })
+    (λ ls rest2 ls_is spelled2 comes. follow (body_phrase d) (λ us. Keyword words.Case ∷ spell_label ls.0 (spell_others spell_label ls.1 us)) _ (each.body (after_others after_label (after_label (suc i) ls.0) ls.1) rest2) comes
+    (λ b rest3 b_is spelled3 comes.
+    let shorter : suc (length rest3) ≤ fuel = omega (arith, longer_label ls.0 (spell_others spell_label ls.1 rest2), longer_others spell_label longer_label ls.1 rest2, longer_body b rest3, ap length spelled2, ap length spelled3, ap length at1) in
+    follow (cases_phrase d) (λ us. Keyword words.Case ∷ spell_label ls.0 (spell_others spell_label ls.1 (spell_body b us))) _ (cases_exact d w each fuel (after_body (after_others after_label (after_label (suc i) ls.0) ls.1) b) rest3 shorter) comes
+    (λ c rest c_is spelled comes. finish (cases_phrase d) (said.case ls.0 ls.1 b c) (ls_is.0, ls_is.1, b_is, c_is) refl comes))))))
     (λ e. follow_keyword (λ us. us) words.End _ (record { goes = λ K. cases_end d i ts K e })
-      (λ rest at comes. follow_keyword (λ us. Keyword words.End ∷ us) words.Select _ comes
-      (λ rest at comes. finish (cases_phrase d) said.end_select tt refl comes)))
+    (λ rest at comes. follow_keyword (λ us. Keyword words.End ∷ us) words.Select _ comes
+    (λ rest at comes. finish (cases_phrase d) said.end_select tt refl comes)))
 
 abbrev selection_phrase : ℕ → ℕ → Phrase to.Stmt
 selection_phrase at d = record {
@@ -175,7 +175,7 @@ selection_phrase at d = record {
   spell = λ x k. Keyword words.Case ∷ spell_level x.0 (spell_cases x.1 k);
   after = λ i x. after_cases (after_level (suc i) x.0) x.1;
   tree = λ i x. to.select at (tree_level (suc i) x.0) (tree_cases (after_level (suc i) x.0) x.1).clauses (tree_cases (after_level (suc i) x.0) x.1).other;
-  front = λ K. (ask.keyword words.Case, d) ∷ (ask.expression, d) ∷ (ask.cases, d) ∷ K
+  front = λ K. (ask.keyword words.Case, d) ∷ (ask.expression, d) ∷ (ask.cases, d) ∷ K;
 }
 
 selection_exact : (at d : ℕ) (w : Inside) → InsideExact d w → AllExact (selection_phrase at d) (selection at w)
@@ -183,9 +183,9 @@ selection_exact at d w each i ts =
     follow_keyword (λ us. us) words.Case _ (record { goes = λ K. refl })
     (λ rest at0 comes. follow (level_phrase 8 d) (λ us. Keyword words.Case ∷ us) _ (each.expression (suc i) rest) comes
     (λ c rest c_is spelled comes.
-      let short : suc (length rest) ≤ suc (length rest) = omega arith in
-      follow (cases_phrase d) (λ us. Keyword words.Case ∷ spell_level c us) _ (cases_exact d w each (suc (length rest)) (after_level (suc i) c) rest short) comes
-      (λ s rest s_is spelled comes. finish (selection_phrase at d) (c, s) (c_is, s_is) refl comes)))
+    let short : suc (length rest) ≤ suc (length rest) = omega arith in
+    follow (cases_phrase d) (λ us. Keyword words.Case ∷ spell_level c us) _ (cases_exact d w each (suc (length rest)) (after_level (suc i) c) rest short) comes
+    (λ s rest s_is spelled comes. finish (selection_phrase at d) (c, s) (c_is, s_is) refl comes)))
 
 -- behind a name
 
@@ -221,8 +221,8 @@ tail_exact : (at : ℕ) (x : List ℕ) (d : ℕ) (expr : ℕ → Reader to.Expr)
 tail_exact at x d expr inside each is i [] = record { holds = λ K. refl }
 tail_exact at x d expr inside each is i (Sign mark.LeftParen ∷ ts) = opened_exact (tail_phrase at x) i (Sign mark.LeftParen ∷ ts) i d inside _ is (λ K. refl)
     (λ e w w_is. follow (args_phrase e) (λ us. Sign mark.LeftParen ∷ us) _ (args_exact e w.expression w_is.expression (suc i) ts) (record { goes = λ K. refl })
-      (λ a rest a_is spelled comes. follow_sign (λ us. Sign mark.LeftParen ∷ spell_args a us) mark.RightParen _ comes
-      (λ rest at1 comes. finish (tail_phrase at x (suc e)) (with_args a) a_is refl comes)))
+    (λ a rest a_is spelled comes. follow_sign (λ us. Sign mark.LeftParen ∷ spell_args a us) mark.RightParen _ comes
+    (λ rest at1 comes. finish (tail_phrase at x (suc e)) (with_args a) a_is refl comes)))
 tail_exact at x d expr inside each is i (Sign mark.LeftBracket ∷ ts) = opened_exact_at at x d expr inside each is i ts
   where
     opened_exact_at : (at : ℕ) (x : List ℕ) (d : ℕ) (expr : ℕ → Reader to.Expr) (inside : Option Inside) → ((e : ℕ) → AllExact (level_phrase 8 e) (expr e)) → InsideAt d inside → (i : ℕ) (ts : Tokens) → Exact (tail_phrase at x d) i (Sign mark.LeftBracket ∷ ts) (tail at x (expr d) inside i (Sign mark.LeftBracket ∷ ts))
@@ -269,8 +269,8 @@ returned_exact : (at d : ℕ) (expression : Reader to.Expr) → AllExact (level_
 returned_exact at d expression each i ts =
     chosen (begins ask.returned ts)
     (λ e. follow (level_phrase 8 d) (λ us. us) _ (each i ts)
-      (record { goes = λ K. began ask.returned ask.expression [] d i ts K (λ u. no_more (rule ask.expression u)) e })
-      (λ c rest c_is spelled comes. finish (returned_phrase at d) (a_value c) c_is refl comes))
+    (record { goes = λ K. began ask.returned ask.expression [] d i ts K (λ u. no_more (rule ask.expression u)) e })
+    (λ c rest c_is spelled comes. finish (returned_phrase at d) (a_value c) c_is refl comes))
     (λ e. empty (returned_phrase at d) i ts no_value ask.returned d tt refl refl (λ K. refl) refl e)
   where
     no_more : (r : ask.Rule) → r ≡ ask.followed_by [] r
@@ -287,7 +287,7 @@ declared_phrase at t d = record {
   spell = λ x k. spell_local x.0 (spell_others spell_local x.1 k);
   after = λ i x. after_others after_local (after_local i x.0) x.1;
   tree = λ i x. to.declare at (record { at = at; name = t }) (tree_local i x.0 ∷ tree_others after_local tree_local (after_local i x.0) x.1);
-  front = λ K. (ask.name, d) ∷ (ask.local_end, d) ∷ (ask.more_locals, d) ∷ K
+  front = λ K. (ask.name, d) ∷ (ask.local_end, d) ∷ (ask.more_locals, d) ∷ K;
 }
 
 declared_exact : (at : ℕ) (t : TypeName) (d : ℕ) (expression : Reader to.Expr) → AllExact (level_phrase 8 d) expression → AllExact (declared_phrase at t d) (declared at t expression)
@@ -303,15 +303,15 @@ abbrev pub statement_phrase : ℕ → Phrase (Option to.Stmt)
 statement_phrase d = record { Said = said.Statement; Is = IsStatement d; spell = spell_statement; after = after_statement; tree = tree_statement; front = λ K. (ask.statement, d) ∷ K }
 
 tail_finish : (x : List ℕ) (d i : ℕ) (t : TailText) (rest : Tokens) → IsStatement d (tail_statement x t)
-  → Comes (statement_phrase d) i (Name x ∷ tail_spell t (Sign mark.Semicolon ∷ rest)) (suc (tail_after (suc i) t)) rest (λ K. K)
-  → Exact (statement_phrase d) i (Name x ∷ tail_spell t (Sign mark.Semicolon ∷ rest)) (Ok (Some (tail_tree i x (suc i) t), suc (tail_after (suc i) t), rest))
+    → Comes (statement_phrase d) i (Name x ∷ tail_spell t (Sign mark.Semicolon ∷ rest)) (suc (tail_after (suc i) t)) rest (λ K. K)
+    → Exact (statement_phrase d) i (Name x ∷ tail_spell t (Sign mark.Semicolon ∷ rest)) (Ok (Some (tail_tree i x (suc i) t), suc (tail_after (suc i) t), rest))
 tail_finish x d i (with_args a) rest is comes = finish (statement_phrase d) (said.call_of x a) is refl comes
 tail_finish x d i (with_value e) rest is comes = finish (statement_phrase d) (said.assigned x e) is refl comes
 tail_finish x d i (with_index j e) rest is comes = finish (statement_phrase d) (said.element_assigned x j e) is refl comes
 
 returned_finish : (d i : ℕ) (t : ReturnedText) (rest : Tokens) → IsStatement d (returned_statement t)
-  → Comes (statement_phrase d) i (Keyword words.Return ∷ returned_spell t (Sign mark.Semicolon ∷ rest)) (suc (returned_after (suc i) t)) rest (λ K. K)
-  → Exact (statement_phrase d) i (Keyword words.Return ∷ returned_spell t (Sign mark.Semicolon ∷ rest)) (Ok (Some (returned_tree i (suc i) t), suc (returned_after (suc i) t), rest))
+    → Comes (statement_phrase d) i (Keyword words.Return ∷ returned_spell t (Sign mark.Semicolon ∷ rest)) (suc (returned_after (suc i) t)) rest (λ K. K)
+    → Exact (statement_phrase d) i (Keyword words.Return ∷ returned_spell t (Sign mark.Semicolon ∷ rest)) (Ok (Some (returned_tree i (suc i) t), suc (returned_after (suc i) t), rest))
 returned_finish d i no_value rest is comes = finish (statement_phrase d) said.return_none is refl comes
 returned_finish d i (a_value e) rest is comes = finish (statement_phrase d) (said.return_value e) is refl comes
 
@@ -351,8 +351,8 @@ statement_by_exact d expr inside each is i t ts (Some kind) e =
     subst (λ (u : TokenKind). Comes (statement_phrase d) i (u ∷ ts) (suc i) ts (λ K. (ask.name, d) ∷ (ask.local_end, d) ∷ (ask.more_locals, d) ∷ (ask.sign mark.Semicolon, d) ∷ K) → Exact (statement_phrase d) i (u ∷ ts) (closed (declared i kind (expr d) (suc i) ts)))
     (sym (type_token_is t kind e))
     (λ comes. follow (declared_phrase i kind d) (λ us. type_token kind ∷ us) _ (declared_exact i kind d (expr d) (each d) (suc i) ts) comes
-      (λ ls rest ls_is spelled comes. follow_sign (λ us. type_token kind ∷ spell_local ls.0 (spell_others spell_local ls.1 us)) mark.Semicolon _ comes
-      (λ rest at comes. finish (statement_phrase d) (said.declared kind ls.0 ls.1) ls_is refl comes)))
+    (λ ls rest ls_is spelled comes. follow_sign (λ us. type_token kind ∷ spell_local ls.0 (spell_others spell_local ls.1 us)) mark.Semicolon _ comes
+    (λ rest at comes. finish (statement_phrase d) (said.declared kind ls.0 ls.1) ls_is refl comes)))
     (record { goes = λ K. ap (λ o. from_met i (λ b. refused_from (suc i) ts b) (by_rule (typed_or (ask.name ∷ ask.local_end ∷ ask.more_locals ∷ ask.sign mark.Semicolon ∷ []) o (plain_statement_rule t)) false d K (meet t K))) e })
 
 statement_exact : (d : ℕ) (expr : ℕ → Reader to.Expr) (inside : Option Inside) → ((e : ℕ) → AllExact (level_phrase 8 e) (expr e)) → InsideAt d inside → AllExact (statement_phrase d) (statement (expr d) inside)
@@ -365,11 +365,11 @@ statements_exact d expr inside each is zero i (t ∷ ts) short = absurd (omega a
 statements_exact d expr inside each is (suc fuel) i ts short =
     chosen (begins ask.body ts)
     (λ e. follow (statement_phrase d) (λ us. us) _ (statement_exact d expr inside each is i ts)
-      (record { goes = λ K. began ask.body ask.statement (ask.body ∷ []) d i ts K (λ u. refl) (sym (begins_as ask.body ask.statement (ask.body ∷ []) ts (λ u. refl)) ∙ e) })
-      (λ s rest s_is spelled comes.
-        let shorter : length rest ≤ fuel = omega (arith, longer_then s rest, ap length spelled) in
-        follow (body_phrase d) (λ us. spell_statement s us) _ (statements_exact d expr inside each is fuel (after_statement i s) rest shorter) comes
-        (λ b rest b_is spelled comes. finish (body_phrase d) (said.then s b) (s_is, b_is) refl comes)))
+    (record { goes = λ K. began ask.body ask.statement (ask.body ∷ []) d i ts K (λ u. refl) (sym (begins_as ask.body ask.statement (ask.body ∷ []) ts (λ u. refl)) ∙ e) })
+    (λ s rest s_is spelled comes.
+    let shorter : length rest ≤ fuel = omega (arith, longer_then s rest, ap length spelled) in
+    follow (body_phrase d) (λ us. spell_statement s us) _ (statements_exact d expr inside each is fuel (after_statement i s) rest shorter) comes
+    (λ b rest b_is spelled comes. finish (body_phrase d) (said.then s b) (s_is, b_is) refl comes)))
     (λ e. empty (body_phrase d) i ts said.end ask.body d tt refl refl (λ K. refl) refl e)
 
 pub body_exact : (d : ℕ) → AllExact (body_phrase d) (body d)
