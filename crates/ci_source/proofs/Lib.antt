@@ -1,3 +1,3 @@
-pub mod Form
+pub mod Statements
 pub mod OneFault
 pub mod Sourcing

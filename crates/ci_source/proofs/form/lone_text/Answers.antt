@@ -1,4 +1,4 @@
-use Rattle.ci_source.proofs.Form.{not_lone}
+use Rattle.ci_source.proofs.Statements.{not_lone}
 use Rattle.ci_source.proofs.form.lone_text.Goals as goal
 
 pub returns-in-len2-up : goal.returns-in-len2-up

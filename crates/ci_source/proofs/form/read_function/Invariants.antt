@@ -1,5 +1,5 @@
 use Rattle.std.proofs.Common.{drop}
-use Rattle.ci_source.proofs.Form.{ReadTo}
+use Rattle.ci_source.proofs.Statements.{ReadTo}
 use Rattle.ci_source.proofs.form.read_function.Given as goal
 
 abbrev pub invariant-loop-statement : goal.invariant-loop-statement
