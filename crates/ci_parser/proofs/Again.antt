@@ -1,10 +1,9 @@
 -- What is spelled is read again: each reader gives the tree of a text, whatever follows that can't go on with it.
-use Rattle.std.proofs.Common.{◌≡◌, ℕ, zero, suc, ◌<◌, ◌≤◌, ℤ, Bool, true, false, List, [], ◌∷◌, length, Option, Some, None, refl, sym, ap, ◌∙◌, subst, arith, inl, inr}
-use Rattle.std.specs.Prelude.{Ok, Err, cond, eqb, Result}
+use Rattle.std.proofs.Common.{◌≡◌, ℕ, zero, suc, ◌<◌, ◌≤◌, Bool, true, false, List, [], ◌∷◌, length, Option, Some, None, refl, ap, ◌∙◌, subst, arith, inl, inr}
+use Rattle.std.specs.Prelude.{Ok, cond, eqb, Result}
 use Rattle.std.proofs.lemmas.Bool.Decides.{eqb_tells}
 use Rattle.ci_tree.specs.declared.token.TokenKind.{TokenKind}
-use Rattle.ci_tree.specs.declared.token.TokenKind.TheVariants.{Name, Keyword, Number, Text, Hashes, Sign}
-use Rattle.ci_tree.specs.declared.token.Keyword.TheVariants as words
+use Rattle.ci_tree.specs.declared.token.TokenKind.TheVariants.{Hashes, Sign}
 use Rattle.ci_tree.specs.declared.token.Sign.TheVariants as mark
 use Rattle.ci_tree.specs.declared.tree.Operator.{Operator}
 use Rattle.ci_tree.specs.declared.tree.Operator.TheVariants as operator
@@ -13,9 +12,9 @@ use Rattle.ci_tree.specs.Grammar.{Tokens, operator_token, group_of, form_group, 
 use Rattle.ci_tree.specs.Grammar as said
 use Rattle.ci_tree.specs.Refused.{Refusal, begins, has_rule, rule, Joint, no_joint, by_operator, by_colon, joint, joint_rule}
 use Rattle.ci_tree.specs.Refused as ask
-use Rattle.ci_parser.specs.Reading.{Found, Reader, ◌>>=◌, rest_by, rest, level_on, more_arguments, arguments, suffix, unary, unary_on, expression}
+use Rattle.ci_parser.specs.Reading.{Reader, ◌>>=◌, rest_by, rest, level_on, more_arguments, arguments, suffix, unary, expression}
 use Rattle.ci_parser.proofs.Exact.{begins_as}
-use Rattle.ci_parser.proofs.Longer.{longer_level, longer_rest, longer_more_args}
+use Rattle.ci_parser.proofs.Longer.{longer_level}
 
 -- one reading, and what is made of it
 pub then_again : {A B : Type 0} {r : Result A Refusal} {x : A} {y : Result B Refusal} (f : A → Result B Refusal) → r ≡ Ok x → f x ≡ y → (r >>= f) ≡ y

@@ -1,23 +1,21 @@
 -- What is spelled is read again: files.
-use Rattle.std.proofs.Common.{◌≡◌, ℕ, zero, suc, ◌<◌, ◌≤◌, Bool, true, false, List, [], ◌∷◌, ◌++◌, length, Option, Some, None, refl, sym, ap, ◌∙◌, subst, arith}
-use Rattle.std.specs.Prelude.{Ok, Err, cond, Result}
-use Rattle.ci_tree.specs.declared.token.TokenKind.{TokenKind}
-use Rattle.ci_tree.specs.declared.token.TokenKind.TheVariants.{Name, Keyword, Number, Text, Hashes, Sign}
+use Rattle.std.proofs.Common.{◌≡◌, ℕ, zero, suc, ◌≤◌, Bool, true, false, List, [], ◌∷◌, ◌++◌, length, Option, Some, None, refl, ◌∙◌, arith}
+use Rattle.std.specs.Prelude.{Ok}
+use Rattle.ci_tree.specs.declared.token.TokenKind.TheVariants.{Name, Keyword, Sign}
 use Rattle.ci_tree.specs.declared.token.Keyword.TheVariants as words
 use Rattle.ci_tree.specs.declared.token.Sign.TheVariants as mark
 use Rattle.ci_tree.specs.declared.tree.TypeName.{TypeName}
 use Rattle.ci_tree.specs.declared.tree.TypeName.TheVariants as type_name
 use Rattle.ci_tree.specs.declared.tree.TypeAt.{TypeAt}
-use Rattle.ci_tree.specs.Tree as to
 use Rattle.ci_tree.specs.Grammar.{Tokens, type_token, spell_first, after_first, tree_first, spell_var, after_var, tree_var, spell_parameter, after_parameter, tree_parameter, spell_parameters, after_parameters, tree_parameters, spell_body, after_body, tree_body, IsFunction, spell_function, after_function, tree_function, spell_others, after_others, tree_others, AreAll, IsDefinition, spell_definition, after_definition, tree_definition, spell_file, tree_file, seen_token, scope_token}
 use Rattle.ci_tree.specs.Grammar as said
 use Rattle.ci_tree.specs.Refused.{Refusal, begins, has_rule, rule}
 use Rattle.ci_tree.specs.Refused as ask
-use Rattle.ci_parser.specs.Reading.{Found, Reader, ◌>>=◌, const, first_value, var_end, var, type_at, parameter, parameters, function_end, function, one_item, variables, typed, seen, scoped, plain_item, item_by, item, items, members, body}
+use Rattle.ci_parser.specs.Reading.{◌>>=◌, const, var, type_at, parameter, parameters, function, one_item, variables, typed, seen, scoped, item, items}
 use Rattle.ci_parser.proofs.ExactItems.{var_phrase, parameter_phrase}
 use Rattle.ci_parser.proofs.Longer.{longer_var, longer_parameter, longer_definition}
 use Rattle.ci_parser.proofs.Again.{then_again, first_way, second_way}
-use Rattle.ci_parser.proofs.AgainStatements.{Closes, MemberAgain, members_again, body_again}
+use Rattle.ci_parser.proofs.AgainStatements.{MemberAgain, members_again, body_again}
 
 type_again : (t : TypeName) (i : ℕ) (k : Tokens) → type_at i (type_token t ∷ k) ≡ Ok (t, suc i, k)
 type_again type_name.Int i k = refl

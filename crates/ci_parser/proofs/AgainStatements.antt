@@ -1,8 +1,7 @@
 -- What is spelled is read again: statements.
-use Rattle.std.proofs.Common.{◌≡◌, ℕ, zero, suc, ◌<◌, ◌≤◌, Bool, true, false, List, [], ◌∷◌, length, Option, Some, None, refl, sym, ap, ◌∙◌, subst, arith}
-use Rattle.std.specs.Prelude.{Ok, Err, cond, Result}
-use Rattle.ci_tree.specs.declared.token.TokenKind.{TokenKind}
-use Rattle.ci_tree.specs.declared.token.TokenKind.TheVariants.{Name, Keyword, Number, Text, Hashes, Sign}
+use Rattle.std.proofs.Common.{◌≡◌, ℕ, zero, suc, ◌≤◌, true, false, List, [], ◌∷◌, length, Option, Some, None, refl, ◌∙◌, arith}
+use Rattle.std.specs.Prelude.{Ok}
+use Rattle.ci_tree.specs.declared.token.TokenKind.TheVariants.{Keyword, Sign}
 use Rattle.ci_tree.specs.declared.token.Keyword.TheVariants as words
 use Rattle.ci_tree.specs.declared.token.Sign.TheVariants as mark
 use Rattle.ci_tree.specs.declared.tree.TypeName.{TypeName}
@@ -14,7 +13,7 @@ use Rattle.ci_tree.specs.Grammar.{Tokens, type_token, relation_token, spell_leve
 use Rattle.ci_tree.specs.Grammar as said
 use Rattle.ci_tree.specs.Refused.{Refusal, begins, has_rule, rule}
 use Rattle.ci_tree.specs.Refused as ask
-use Rattle.ci_parser.specs.Reading.{Found, Reader, ◌>>=◌, others, members, local, label, label_end, relation_at, relation_by, begins_with, Inside, else_part, cases, statement, statement_by, statements, plain_statement, body, expression}
+use Rattle.ci_parser.specs.Reading.{Reader, others, members, local, label, relation_at, begins_with, Inside, else_part, cases, statement, statement_by, statements, body, expression}
 use Rattle.ci_parser.proofs.Exact.{Phrase, begins_as}
 use Rattle.ci_parser.proofs.ExactMembers.{local_phrase, label_phrase}
 use Rattle.ci_parser.proofs.Longer.{longer_local, longer_label, longer_others, longer_body, longer_then}

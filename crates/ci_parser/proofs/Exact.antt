@@ -1,16 +1,16 @@
 -- What it means that reading a symbol agrees with the grammar and with the first refused token, and how that is shown
 -- step by step.
-use Rattle.std.proofs.Common.{◌≡◌, ℕ, zero, suc, Bool, true, false, List, [], ◌∷◌, Option, Some, None, refl, sym, ap, ◌∙◌, subst}
-use Rattle.std.specs.Prelude.{Ok, Err, cond, eqb, ◌&&◌, ◌++◌}
+use Rattle.std.proofs.Common.{◌≡◌, ℕ, zero, suc, Bool, true, false, List, [], ◌∷◌, Some, None, refl, sym, ap, ◌∙◌, subst}
+use Rattle.std.specs.Prelude.{Ok, Err, cond, ◌&&◌, ◌++◌}
 use Rattle.std.proofs.lemmas.Bool.{eqb-true}
 use Rattle.ci_tree.specs.declared.token.TokenKind.{TokenKind}
-use Rattle.ci_tree.specs.declared.token.TokenKind.TheVariants.{Name, Keyword, Number, Text, Hashes, Sign}
+use Rattle.ci_tree.specs.declared.token.TokenKind.TheVariants.{Keyword, Sign}
 use Rattle.ci_tree.specs.declared.token.Keyword as of_keyword
 use Rattle.ci_tree.specs.declared.token.Keyword.TheVariants as words
 use Rattle.ci_tree.specs.declared.token.Sign as of_sign
 use Rattle.ci_tree.specs.declared.token.Sign.TheVariants as mark
 use Rattle.ci_tree.specs.Grammar.{Tokens}
-use Rattle.ci_tree.specs.Refused.{Refusal, unexpected, unexpected_end, too_deep, Symbol, keyword, sign, Stack, Rule, no_rule, takes, opens, rule, refused_from, from_met, by_rule, taken_if, meet, push, is_keyword, is_sign, begins, has_rule, can_be_empty, followed_by, keyword_number, sign_number, all_empty, Met, left, comma_rule, equal_rule}
+use Rattle.ci_tree.specs.Refused.{unexpected, unexpected_end, Symbol, keyword, sign, Stack, Rule, no_rule, takes, opens, rule, refused_from, from_met, by_rule, taken_if, meet, push, is_keyword, is_sign, begins, has_rule, can_be_empty, followed_by, keyword_number, sign_number, all_empty, Met, left, comma_rule, equal_rule}
 use Rattle.ci_parser.specs.Reading.{Found, ◌>>=◌, expect}
 
 -- What a reader reads: what the grammar says of it, and the symbols that stand for it.

@@ -1,6 +1,6 @@
 -- Reading a file agrees with the grammar and with the first refused token.
-use Rattle.std.proofs.Common.{◌≡◌, ℕ, zero, suc, ◌≤◌, ℤ, Bool, true, false, List, [], ◌∷◌, ◌++◌, length, Option, Some, None, refl, sym, ap, ◌∙◌, subst, arith}
-use Rattle.std.specs.Prelude.{Ok, Err, cond, Result}
+use Rattle.std.proofs.Common.{◌≡◌, ℕ, zero, suc, ◌≤◌, Bool, true, false, List, [], ◌∷◌, ◌++◌, length, Option, Some, None, refl, sym, ap, ◌∙◌, subst, arith}
+use Rattle.std.specs.Prelude.{Ok, Err, Result}
 use Rattle.ci_tree.specs.declared.token.TokenKind.{TokenKind}
 use Rattle.ci_tree.specs.declared.token.TokenKind.TheVariants.{Name, Keyword, Number, Text, Sign}
 use Rattle.ci_tree.specs.declared.token.Keyword.TheVariants as words
@@ -14,12 +14,12 @@ use Rattle.ci_tree.specs.Grammar.{Tokens, type_token, spell_first, after_first, 
 use Rattle.ci_tree.specs.Grammar as said
 use Rattle.ci_tree.specs.Refused.{Refusal, Symbol, Stack, rule, refused_from, from_met, by_rule, meet, push, begins, has_rule, type_of_token, typed_or, plain_item_rule, function_rule, no_rule}
 use Rattle.ci_tree.specs.Refused as ask
-use Rattle.ci_parser.specs.Reading.{Found, Reader, ◌>>=◌, const, first_value, var_end, var, parameter, parameters, function_end, function, one_item, variables, typed, seen, scoped, plain_item, item_by, item, items, members, body}
-use Rattle.ci_parser.proofs.Exact.{Phrase, ReadAs, Exact, Comes, follow, finish, follow_keyword, follow_sign, chosen, dropped, empty, began, begins_as, split, split_one, equal_began, turn}
+use Rattle.ci_parser.specs.Reading.{Found, ◌>>=◌, const, first_value, var, parameter, parameters, function, variables, typed, seen, scoped, plain_item, item_by, item, items, members}
+use Rattle.ci_parser.proofs.Exact.{Phrase, Exact, Comes, follow, finish, follow_keyword, follow_sign, chosen, dropped, empty, began, begins_as, split, equal_began, turn}
 use Rattle.ci_parser.proofs.ExactExpressions.{AllExact, name_phrase, name_exact, number_phrase, number_exact, type_phrase, type_exact, type_token_is}
 use Rattle.ci_parser.proofs.ExactMembers.{members_phrase, members_exact}
 use Rattle.ci_parser.proofs.ExactStatements.{body_phrase, body_exact}
-use Rattle.ci_parser.proofs.Longer.{longer_var, longer_parameter, longer_others, longer_body, longer_definition}
+use Rattle.ci_parser.proofs.Longer.{longer_var, longer_parameter, longer_definition}
 
 -- First values
 

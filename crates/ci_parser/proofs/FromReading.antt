@@ -1,8 +1,8 @@
 -- The laws, from reading.
-use Rattle.std.proofs.Common.{◌≡◌, ℕ, ◌≤◌, List, length, Option, Some, None, refl, sym, ap, ◌∙◌, subst, arith}
-use Rattle.std.specs.Prelude.{Ok, Err, Result, ◌↔◌}
+use Rattle.std.proofs.Common.{◌≡◌, ℕ, ◌≤◌, List, length, Some, None, refl, sym, ap, ◌∙◌, subst, arith}
+use Rattle.std.specs.Prelude.{Ok, Err, Result}
 use Rattle.ci_tree.specs.Tree.{Item}
-use Rattle.ci_tree.specs.Grammar.{Tokens, derives, nesting, spell_file, tree_file}
+use Rattle.ci_tree.specs.Grammar.{Tokens, derives, nesting, spell_file}
 use Rattle.ci_tree.specs.Refused.{Refusal, refused_at}
 use Rattle.ci_parser.specs.Reading.{items}
 use Rattle.ci_parser.specs.OfGrammar.{TreeOrRefused, OneTree}

@@ -1,5 +1,5 @@
 -- A text is no shorter than what follows it.
-use Rattle.std.proofs.Common.{◌≡◌, ℕ, suc, ◌≤◌, List, [], ◌∷◌, length, arith, refl}
+use Rattle.std.proofs.Common.{suc, ◌≤◌, List, [], ◌∷◌, length, arith}
 use Rattle.ci_tree.specs.declared.token.TokenKind.TheVariants.{Keyword, Sign}
 use Rattle.ci_tree.specs.declared.token.Keyword.TheVariants as words
 use Rattle.ci_tree.specs.declared.token.Sign.TheVariants as mark

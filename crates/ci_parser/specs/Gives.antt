@@ -1,5 +1,5 @@
 -- What a function of the code gives, beside what reading gives.
-use Rattle.std.specs.Prelude.{◌≡◌, ℕ, List, map, Result, Ok, Err}
+use Rattle.std.specs.Prelude.{◌≡◌, List, map, Result, Ok, Err}
 use Rattle.ci_tree.specs.declared.token.Token.{Token}
 use Rattle.ci_tree.specs.Grammar.{Tokens}
 use Rattle.ci_tree.specs.Refused.{Refusal, unexpected, unexpected_end, too_deep}

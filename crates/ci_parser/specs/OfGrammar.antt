@@ -1,5 +1,5 @@
 -- Laws of the grammar and the first refused token.
-use Rattle.std.specs.Prelude.{◌≡◌, ◌↔◌, List, Option, None}
+use Rattle.std.specs.Prelude.{◌≡◌, ◌↔◌, List, None}
 use Rattle.ci_tree.specs.Tree.{Item}
 use Rattle.ci_tree.specs.Grammar.{Tokens, derives}
 use Rattle.ci_tree.specs.Refused.{refused_at}

@@ -8,11 +8,9 @@ use Rattle.ci_tree.specs.declared.token.TokenKind.{TokenKind}
 use Rattle.ci_tree.specs.declared.token.TokenKind.TheVariants.{Name, Keyword, Number, Text, Hashes, Sign}
 use Rattle.ci_tree.specs.declared.token.Keyword as of_keyword
 use Rattle.ci_tree.specs.declared.token.Keyword.TheVariants as words
-use Rattle.ci_tree.specs.declared.token.Sign as of_sign
 use Rattle.ci_tree.specs.declared.token.Sign.TheVariants as mark
 use Rattle.ci_tree.specs.declared.tree.TypeName.{TypeName}
 use Rattle.ci_tree.specs.declared.tree.TypeAt.{TypeAt}
-use Rattle.ci_tree.specs.declared.tree.Length.{Length}
 use Rattle.ci_tree.specs.declared.tree.Const.{Const}
 use Rattle.ci_tree.specs.declared.tree.Const.TheVariants as consts
 use Rattle.ci_tree.specs.declared.tree.Param.{Param}

@@ -1,17 +1,15 @@
 -- A source has one meaning or one first fault.
-use Rattle.std.proofs.Common.{◌≡◌, ℕ, List, [], ◌∷◌, Option, Some, None, refl, sym, ◌∙◌, ap, subst, ◌⊎◌, inl, inr}
-use Rattle.ci_lexer.specs.Faults.{lex_fault}
+use Rattle.std.proofs.Common.{◌≡◌, ℕ, List, Option, Some, None, sym, ◌∙◌, ap, subst, inl, inr}
 use Rattle.ci_lexer.specs.Laws.{HasOneList, HasOneFault, NeverBoth}
 use Rattle.ci_parser.specs.Gives.{kinds}
 use Rattle.ci_parser.specs.OfGrammar.{TreeOrRefused, OneTree}
 use Rattle.ci_source.specs.declared.fault.Fault.{Fault}
 use Rattle.ci_source.specs.FirstForm.{first_form}
-use Rattle.ci_source.specs.Sources.{Parses, Means, HasFault, HasLexicalFault, HasGrammarFault, IsNotBuilt, lexical_fault, grammar_fault}
+use Rattle.ci_source.specs.Sources.{Parses, Means, HasFault, HasLexicalFault, HasGrammarFault, lexical_fault, grammar_fault}
 use Rattle.ci_tree.specs.declared.project.Project.{Project}
 use Rattle.ci_tree.specs.declared.token.Token.{Token}
 use Rattle.ci_tree.specs.Grammar.{derives}
 use Rattle.ci_tree.specs.Refused.{Refusal, refused_at}
-use Rattle.ci_tree.specs.Tokens.{tokens}
 use Rattle.ci_tree.specs.Tree.{Item}
 
 -- the laws of the lexer and the grammar

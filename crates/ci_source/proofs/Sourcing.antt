@@ -1,5 +1,5 @@
 -- What is known of a source's fault and of its project.
-use Rattle.std.proofs.Common.{◌≡◌, ◌≢◌, ℕ, zero, suc, ◌+◌, ◌*◌, ◌<◌, ◌≤◌, Bool, true, false, cond, List, [], ◌∷◌, ◌++◌, length, map, Option, Some, None, refl, sym, ◌∙◌, ap, subst, arith, length-append, inl, inr}
+use Rattle.std.proofs.Common.{◌≡◌, ◌≢◌, ℕ, zero, suc, ◌+◌, ◌*◌, ◌<◌, ◌≤◌, Bool, true, false, cond, List, [], ◌∷◌, ◌++◌, length, Option, Some, None, refl, sym, ◌∙◌, ap, subst, arith, inl, inr}
 use Rattle.std.specs.Prelude.{slice_get, option_map, codes, nat_le}
 use Rattle.std.specs.Str.{str_eq_ignore_ascii_case}
 use Rattle.std.proofs.lemmas.List.{length-map}
@@ -30,7 +30,7 @@ use Rattle.ci_tree.specs.Refused.{Refusal, unexpected, unexpected_end, too_deep,
 use Rattle.ci_tree.specs.Tokens as reading
 use Rattle.ci_tree.specs.Tokens.{Reads, tokens}
 use Rattle.ci_tree.specs.Tree as to
-use Rattle.ci_parser.proofs.Longer.{longer_args, longer_parameters, longer_definition}
+use Rattle.ci_parser.proofs.Longer.{longer_args, longer_parameters}
 
 some_clash : {A : Type 0} (x : A) → None ≡ Some x → ⊥
 some_clash {A} x e = let P : Option A → Type 0 = λ o. elim o [ None ↦ Unit {0} | Some y ↦ ⊥ ] in subst P e tt

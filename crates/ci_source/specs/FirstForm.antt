@@ -1,5 +1,5 @@
 -- The trees that can be run today: one function Main, whose statements trace texts.
-use Rattle.std.specs.Prelude.{ℕ, Bool, false, ◌&&◌, nat_le, if◌then◌else◌, List, [], ◌∷◌, length, codes, Option, None, Some}
+use Rattle.std.specs.Prelude.{ℕ, false, nat_le, if◌then◌else◌, List, [], ◌∷◌, length, codes, Option, None, Some}
 use Rattle.std.specs.Str.{str_eq_ignore_ascii_case}
 use Rattle.ci_tree.specs.Tree as tree
 use Rattle.ci_tree.specs.Tree.{Expr, expr, What, literal, Exprs, more, no_expr, Stmt, call_of, Block, done, Item, function}

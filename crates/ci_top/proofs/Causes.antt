@@ -1,16 +1,16 @@
 -- Two causes that hold of the same words agree.
-use Rattle.std.proofs.Common.{◌≡◌, ℕ, ◌+◌, ◌<◌, ◌≤◌, Bool, true, false, cond, List, [], ◌∷◌, ◌++◌, length, Option, Some, None, Result, Ok, Err, IsSomeAnd, refl, sym, ◌∙◌, ap, subst, arith, ◌⊎◌, inl, inr}
+use Rattle.std.proofs.Common.{◌≡◌, ℕ, ◌<◌, ◌≤◌, List, [], ◌∷◌, ◌++◌, length, Option, Some, None, Result, Ok, Err, IsSomeAnd, refl, sym, ◌∙◌, ap, subst, arith, inl, inr}
 use Rattle.std.specs.FinMap.{get}
 use Rattle.ci_outside.specs.Causes.{Rose}
-use Rattle.ci_outside.specs.Shelf.{Files, HasFile, LacksFile, HasLongFile}
+use Rattle.ci_outside.specs.Shelf.{Files, HasFile}
 use Rattle.ci_tree.specs.declared.project.Project.{Project}
 use Rattle.ci_top.specs.declared.decision.FileFault.{FileFault}
 use Rattle.ci_top.specs.declared.decision.WordsFault.{WordsFault}
 use Rattle.ci_top.specs.declared.decision.FileFault.TheVariants as faults
-use Rattle.ci_top.specs.Answers.{Kept, Cause, words_refused, not_fetched, source_refused, no_memory, ran, Holds, FaultHolds, Fetched, ComesTo, HasAll, IsRun, IsRefused}
+use Rattle.ci_top.specs.Answers.{Kept, words_refused, not_fetched, source_refused, no_memory, ran, FaultHolds, Fetched, ComesTo, HasAll, IsRun, IsRefused}
 use Rattle.ci_top.specs.Defaults.{source_limit}
 use Rattle.ci_top.specs.FirstForm.{Compiles}
-use Rattle.ci_top.specs.OneCause.{Agree, OneCause}
+use Rattle.ci_top.specs.OneCause.{OneCause}
 use Rattle.ci_top.specs.Order.{Order, order}
 use Rattle.ci_top.specs.World.{World}
 

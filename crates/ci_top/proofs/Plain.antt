@@ -1,5 +1,5 @@
 -- The plain clauses of the top call follow from its contract.
-use Rattle.std.proofs.Common.{◌≡◌, ℕ, List, [], Option, Result, Ok, Err, IsErr, refl, sym, ◌∙◌, ap, subst, arith, ◌⊎◌, inl, inr, true, false, Bool, cond}
+use Rattle.std.proofs.Common.{◌≡◌, ℕ, List, Option, Result, Ok, Err, IsErr, refl, sym, ◌∙◌, ap, subst, arith, ◌⊎◌, inl, inr, Bool, cond}
 use Rattle.std.specs.Io.KnownBytes.{Appends}
 use Rattle.ci_base.specs.declared.limits.Ending.{Ending}
 use Rattle.ci_base.specs.declared.limits.Ending.TheVariants as endings

@@ -3,7 +3,7 @@ use Rattle.std.proofs.Common.{◌≡◌, Bool, true, false, cond, ℕ, ◌+◌, 
 use Rattle.std.specs.List.{flat_map, AllByRecursion}
 use Rattle.std.proofs.lemmas.Grind.{flat_map-append}
 use Rattle.ci_tree.specs.declared.project.Project.{Project}
-use Rattle.ci_top.specs.FirstForm.{IsPlain, call_of, source_of, FirstForm}
+use Rattle.ci_top.specs.FirstForm.{IsPlain, call_of, FirstForm}
 use Rattle.ci_top.proofs.Calls.{call-opened, plain_unique}
 
 -- the end of a source

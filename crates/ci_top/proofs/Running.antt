@@ -1,8 +1,7 @@
 -- The steps of a run of one task that traces texts.
-use Rattle.std.proofs.Common.{◌≡◌, ℕ, ◌+◌, ◌*◌, ◌<◌, ◌≤◌, drop, get_or, rules, Bool, true, false, List, [], ◌∷◌, ◌++◌, length, sum_by, codes, Some, None, refl, sym, ◌∙◌, ap, subst, append_assoc, arith, length-append, ◌⊎◌, inl, inr}
+use Rattle.std.proofs.Common.{◌≡◌, ℕ, ◌+◌, ◌<◌, ◌≤◌, drop, get_or, rules, true, false, List, [], ◌∷◌, ◌++◌, length, codes, refl, sym, ◌∙◌, ap, subst, arith, length-append, ◌⊎◌, inl, inr}
 use Rattle.std.specs.Str.{str_eq_ignore_ascii_case}
 use Rattle.ci_base.specs.declared.entry.Entry.{Entry}
-use Rattle.ci_base.specs.declared.event.Event.{Event}
 use Rattle.ci_base.specs.declared.place.Status.TheVariants as statuses
 use Rattle.ci_tree.specs.declared.project.Project.{Project}
 use Rattle.ci_top.specs.Defaults.{default_script, default_budget}

@@ -1,5 +1,5 @@
 -- Texts that are put line by line.
-use Rattle.std.proofs.Common.{◌≡◌, ℕ, ◌+◌, ◌<◌, ◌≤◌, Bool, true, false, cond, List, [], ◌∷◌, ◌++◌, length, take, drop, get_or, Option, Result, Ok, Err, IsErr, refl, sym, ◌∙◌, ap, subst, append_assoc, append-nil, arith, length-take-le}
+use Rattle.std.proofs.Common.{◌≡◌, ℕ, ◌+◌, ◌<◌, Bool, true, false, cond, List, [], ◌∷◌, ◌++◌, length, take, drop, get_or, Option, Result, Ok, Err, IsErr, sym, ◌∙◌, ap, subst, append_assoc, append-nil, arith, length-take-le}
 use Rattle.ci_outside.specs.Sink.{Puts}
 use Rattle.ci_outside.proofs.Putting.{Puts-fails, Puts-nothing}
 use Rattle.std.specs.List.{flat_map}

@@ -1,15 +1,14 @@
 -- What becomes of an order: what is kept of it, its text and its status.
-use Rattle.std.specs.Prelude.{◌≡◌, ℕ, ◌≤◌, List, [], ◌∷◌, Option, Ok}
+use Rattle.std.specs.Prelude.{◌≡◌, ℕ, List, [], Option}
 use Rattle.ci_outside.specs.Shelf.{Files}
 use Rattle.ci_tree.specs.declared.project.Project.{Project}
 use Rattle.ci_top.specs.declared.decision.Decision.{Decision}
 use Rattle.ci_top.specs.declared.decision.Decision.TheVariants as decisions
 use Rattle.ci_top.specs.declared.run.Ran.{Ran}
-use Rattle.ci_top.specs.Answers.{Kept, nothing_kept, Cause, words_refused, not_fetched, source_refused, no_memory, ran, Holds, status_of, text_of, ending_status}
+use Rattle.ci_top.specs.Answers.{Kept, nothing_kept, Cause, words_refused, not_fetched, source_refused, no_memory, Holds, status_of, text_of, ending_status}
 use Rattle.ci_top.specs.FirstForm.{FirstForm}
 use Rattle.ci_top.specs.Ran.{RanWhole}
-use Rattle.ci_top.specs.Report.{CanTell, report_text, end_state}
-use Rattle.ci_top.specs.World.{World}
+use Rattle.ci_top.specs.Report.{CanTell, report_text}
 
 -- what is kept of a run
 abbrev pub kept_of_run : Ran → Kept

@@ -1,5 +1,5 @@
 -- What a task does next on the tree of its project, with nobody else in view.
-use Rattle.std.specs.Prelude.{◌≡◌, ℕ, zero, suc, ◌+◌, Bool, true, false, cond, List, [], ◌∷◌, Option, None, Some}
+use Rattle.std.specs.Prelude.{◌≡◌, ℕ, zero, suc, ◌+◌, Bool, true, cond, List, [], ◌∷◌, Option, None, Some}
 use Rattle.ci_base.specs.declared.reply.Answer.{Answer}
 use Rattle.ci_base.specs.declared.request.Request.{Request}
 use Rattle.ci_base.specs.declared.request.Request.TheVariants as requests

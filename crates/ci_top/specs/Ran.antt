@@ -1,5 +1,5 @@
 -- A run of a project whose one task traces texts.
-use Rattle.std.specs.Prelude.{◌≡◌, ℕ, false, List, [], ◌∷◌, codes, pos}
+use Rattle.std.specs.Prelude.{◌≡◌, ℕ, false, List, [], codes, pos}
 use Rattle.ci_base.specs.declared.entry.Entry.{Entry}
 use Rattle.ci_base.specs.declared.entry.Entry.TheVariants as entries
 use Rattle.ci_base.specs.declared.event.EventKind.TheVariants as events

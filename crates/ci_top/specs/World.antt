@@ -1,5 +1,5 @@
 -- The preemptive machine: any task that can make a step may make the next one.
-use Rattle.std.specs.Prelude.{◌≡◌, ℕ, List, [], ◌∷◌, ◌++◌, length, Option, None, Some, IsTrue, ◌⊎◌}
+use Rattle.std.specs.Prelude.{◌≡◌, ℕ, List, [], ◌∷◌, ◌++◌, Option, None, Some, IsTrue, ◌⊎◌}
 use Rattle.std.specs.Option.{option_map_or}
 use Rattle.ci_base.specs.declared.entry.Entry.{Entry}
 use Rattle.ci_base.specs.declared.entry.Entry.TheVariants as entries

@@ -8,7 +8,7 @@
 --   after_..  the index of the token behind it, where it begins at the token of this index;
 --   tree_..   the tree that it means, where it begins at the token of this index.
 -- A spelling is a function, and nothing has to be cut in pieces: so a spelling can be read back by computation.
-use Rattle.std.specs.Prelude.{◌≡◌, ℕ, zero, suc, ◌≤◌, ℤ, Bool, true, false, List, [], ◌∷◌, ◌++◌, length, Option, Some, None}
+use Rattle.std.specs.Prelude.{◌≡◌, ℕ, zero, suc, ℤ, Bool, true, false, List, [], ◌∷◌, ◌++◌, Option, Some, None}
 use Rattle.std.specs.Int.{w32, int_wrapping_neg}
 use Rattle.ci_tree.specs.declared.token.TokenKind.{TokenKind}
 use Rattle.ci_tree.specs.declared.token.TokenKind.TheVariants.{Name, Keyword, Number, Text, Hashes, Sign}
@@ -17,7 +17,6 @@ use Rattle.ci_tree.specs.declared.token.Sign.TheVariants as sign
 use Rattle.ci_tree.specs.declared.tree.TypeName.{TypeName}
 use Rattle.ci_tree.specs.declared.tree.TypeName.TheVariants as type_name
 use Rattle.ci_tree.specs.declared.tree.TypeAt.{TypeAt}
-use Rattle.ci_tree.specs.declared.tree.Length.{Length}
 use Rattle.ci_tree.specs.declared.tree.Const.{Const}
 use Rattle.ci_tree.specs.declared.tree.Const.TheVariants as const
 use Rattle.ci_tree.specs.declared.tree.Param.{Param}

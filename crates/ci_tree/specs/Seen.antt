@@ -1,6 +1,5 @@
 -- Which tree a value of the code is.
-use Rattle.std.specs.Prelude.{ℕ, List, [], ◌∷◌, map, Option, Some, None, option_map, Bool}
-use Rattle.ci_tree.specs.declared.tree.ExprKind.{fold-ExprKind}
+use Rattle.std.specs.Prelude.{List, map, option_map}
 use Rattle.ci_tree.specs.declared.tree.ExprKind.TheFolds.{fold-Expr, fold-Link}
 use Rattle.ci_tree.specs.declared.tree.ExprKind.TheOpen.{ExprKind-F, Link-F, Expr-F}
 use Rattle.ci_tree.specs.declared.tree.Expr as code_expr

@@ -1,4 +1,4 @@
-use Rattle.ci_source.proofs.OneFault.{Laws, one_fault, means-no_fault}
+use Rattle.ci_source.proofs.OneFault.{one_fault, means-no_fault}
 use Rattle.ci_source.proofs.laws.one_meaning.Goals as goal
 
 pub returns-clause-one_fault : goal.returns-clause-one_fault

@@ -1,4 +1,4 @@
-use Rattle.std.proofs.Common.{◌≡◌, ℕ, ◌++◌, codes, arith, ap, length, refl, inl}
+use Rattle.std.proofs.Common.{◌≡◌, ◌++◌, codes, arith, ap, length, refl}
 use Rattle.ci_top.proofs.Calls.{call-text}
 use Rattle.ci_top.proofs.first_form.next_call.Goals as goal
 

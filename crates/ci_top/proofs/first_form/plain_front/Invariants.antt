@@ -1,4 +1,4 @@
-use Rattle.std.proofs.Common.{◌≡◌, take, IsTrue}
+use Rattle.std.proofs.Common.{take, IsTrue}
 use Rattle.std.specs.List.{list_all}
 use Rattle.ci_top.specs.FirstForm.{is_plain_byte}
 use Rattle.ci_top.proofs.first_form.plain_front.Given as goal

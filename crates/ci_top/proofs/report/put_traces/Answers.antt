@@ -1,6 +1,5 @@
-use Rattle.ci_outside.proofs.Putting.{Puts-then}
 use Rattle.ci_top.specs.Report.{entry_line}
-use Rattle.ci_top.proofs.Writing.{flat-around, flat-next, stops}
+use Rattle.ci_top.proofs.Writing.{flat-around, stops}
 use Rattle.ci_top.proofs.report.put_traces.Goals as goal
 
 pub returns-in_err-put_entry : goal.returns-in_err-put_entry

@@ -1,5 +1,4 @@
-use Rattle.std.proofs.Common.{◌≡◌, ◌+◌, ◌≤◌, ◌∷◌, [], ◌++◌, refl, ap, sym, ◌∙◌, arith, length, length-append}
-use Rattle.ci_base.specs.declared.entry.Entry.{Entry}
+use Rattle.std.proofs.Common.{◌≡◌, ◌∷◌, [], refl, ap, ◌∙◌, arith, length, length-append}
 use Rattle.ci_top.proofs.Running.{progress-start, progress-at, ran-whole}
 use Rattle.ci_top.specs.Ran.{the_start}
 use Rattle.ci_top.proofs.run.run.Goals as goal

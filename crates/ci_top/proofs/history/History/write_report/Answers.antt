@@ -1,4 +1,4 @@
-use Rattle.std.proofs.Common.{◌≡◌, ◌++◌, [], length, refl, append_assoc, sym, ◌∙◌, ap}
+use Rattle.std.proofs.Common.{◌≡◌, ◌++◌, length, refl, append_assoc}
 use Rattle.std.specs.List.{flat_map}
 use Rattle.ci_outside.proofs.Putting.{Puts-then}
 use Rattle.ci_top.specs.Report.{report_text, entry_line, task_lines, closing_line}
