@@ -1,3 +1,4 @@
+pub mod Functions
 pub mod Letters
 pub mod Names
 pub mod Numbers

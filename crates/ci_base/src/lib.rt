@@ -5,6 +5,7 @@
 mod bytes;
 mod entry;
 mod event;
+mod function;
 mod limits;
 mod line;
 mod list;
@@ -22,6 +23,7 @@ mod value;
 pub use bytes::Bytes;
 pub use entry::Entry;
 pub use event::{Event, EventKind, EventReply};
+pub use function::{PrivateName, SharedName};
 pub use limits::{Ending, Limits, Turn};
 pub use line::{Line, put_number, put_u32, put_u64};
 pub use list::{Loose, LooseList};

@@ -149,6 +149,8 @@ fn small_values_are_copied(rt: HostRuntime) {
     };
     assert_eq!(rt; limits.copy(), limits);
     assert_eq!(rt; Kind::Str.copy(), Kind::Str);
+    assert_eq!(rt; PrivateName::Abs.copy(), PrivateName::Abs);
+    assert_eq!(rt; SharedName::End.copy(), SharedName::End);
     assert_eq!(rt; OutOfMemory.copy(), OutOfMemory);
     assert_eq!(rt; Ending::Spent.copy(), Ending::Spent);
     assert_eq!(rt; Turn::Went.copy(), Turn::Went);

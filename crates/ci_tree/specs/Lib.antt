@@ -1,10 +1,17 @@
+pub mod Bound
 pub mod Comments
+pub mod Files
 pub mod Grammar
 pub mod Longest
+pub mod Nodes
+pub mod Operators
 pub mod Refused
+pub mod Rooms
 pub mod Seen
+pub mod SeenBound
 pub mod Shapes
 pub mod Signs
+pub mod Sound
 pub mod Tokens
 pub mod Tree
 pub mod Words

@@ -1,11 +1,14 @@
 //! The tokens of a source, and the trees that are made of them.
 #![tactic(auto)]
 
+pub mod bound;
+mod file_tree;
 mod making;
 mod project;
 mod token;
 mod tree;
 
+pub use file_tree::FileTree;
 pub use project::{Project, TextList};
 pub use token::{Keyword, Sign, Token, TokenKind, TokenList};
 pub use tree::{
