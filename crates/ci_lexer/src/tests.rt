@@ -225,6 +225,9 @@ fn texts_and_escapes(rt: HostRuntime) -> Result<(), Fail> {
     refuses(&rt, alloc, b"\"^0\"", LexFault::BadEscape { at: 0 });
     refuses(&rt, alloc, b"\"^x\"", LexFault::BadEscape { at: 0 });
     refuses(&rt, alloc, b"\"^", LexFault::BadEscape { at: 0 });
+    refuses(&rt, alloc, b"\"^0", LexFault::BadEscape { at: 0 });
+    refuses(&rt, alloc, b"\"^0x", LexFault::BadEscape { at: 0 });
+    refuses(&rt, alloc, b"\"^0x4", LexFault::BadEscape { at: 0 });
     refuses(&rt, alloc, b"\"^\n\"", LexFault::BadEscape { at: 0 });
     refuses(&rt, alloc, b"x \"", LexFault::OpenString { at: 2 });
     refuses(&rt, alloc, b"\"abc", LexFault::OpenString { at: 0 });
