@@ -3,8 +3,12 @@ use Rattle.std.proofs.Common.{◌≡◌, ℕ, ◌≤◌, List, length, Some, Non
 use Rattle.std.specs.Prelude.{Ok, Err, Result}
 use Rattle.ci_tree.specs.Tree.{Item}
 use Rattle.ci_tree.specs.Grammar.{Tokens, derives, nesting, spell_file}
-use Rattle.ci_tree.specs.Refused.{Refusal, refused_at}
+use Rattle.ci_tree.specs.Refused.{Refusal, unexpected, unexpected_end, too_deep, refused_at}
+use Rattle.ci_parser.specs.declared.fault.ParseFault.{ParseFault}
+use Rattle.ci_parser.specs.declared.fault.ParseFault.TheVariants as faults
+use Rattle.ci_parser.specs.Gives.{Fails}
 use Rattle.ci_parser.specs.Reading.{items}
+use Rattle.ci_parser.specs.Refusals.{IsRefusal}
 use Rattle.ci_parser.specs.OfGrammar.{TreeOrRefused, OneTree}
 use Rattle.ci_parser.proofs.ExactItems.{items_exact, FileExact}
 use Rattle.ci_parser.proofs.AgainItems.{items_again}
@@ -28,6 +32,13 @@ read_derives tokens tree e =
 -- one that isn't has the refusal
 pub read_refused : (tokens : Tokens) (f : Refusal) → read tokens ≡ Err f → refused_at tokens ≡ Some f
 read_refused tokens f e = subst (λ (r : Result (List Item) Refusal). FileExact nesting 0 tokens r) e (read_exact tokens)
+
+-- so the fault of its reader is the refusal
+pub fails_refused : (tokens : Tokens) (fault : ParseFault) → Fails fault (read tokens) → IsRefusal tokens fault
+fails_refused tokens (faults.Unexpected at) e = read_refused tokens (unexpected at) e
+fails_refused tokens faults.UnexpectedEnd e = read_refused tokens unexpected_end e
+fails_refused tokens (faults.TooDeep at) e = read_refused tokens (too_deep at) e
+fails_refused tokens faults.Memory e = tt
 
 -- the tree of tokens is read
 pub derives_read : (tokens : Tokens) (tree : List Item) → derives tokens tree → read tokens ≡ Ok tree

@@ -7,5 +7,8 @@ pub mod ExactItems
 pub mod Again
 pub mod AgainStatements
 pub mod AgainItems
+pub mod ItemLoop
 pub mod FromReading
 pub mod Loops
+pub mod Nodes
+pub mod Bodies

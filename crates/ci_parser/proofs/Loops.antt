@@ -216,6 +216,9 @@ gives_same view r one other e h = subst (λ x. Gives view r x) e h
 pub found_some : {X Y : Type 0} (view : X → Y) (o : Option X) (x : X) (r : Result (Option Y) Refusal) → r ≡ Ok (option_map view o) → o ≡ Some x → r ≡ Ok (Some (view x))
 found_some view o x r e h = e ∙ ap (λ o. Ok (option_map view o)) h
 
+pub found_none : {X Y : Type 0} (view : X → Y) (o : Option X) (r : Result (Option Y) Refusal) → r ≡ Ok (option_map view o) → o ≡ None → r ≡ Ok None
+found_none view o r e h = e ∙ ap (λ o. Ok (option_map view o)) h
+
 pub goes_on_with : {X : Type 0} (step : Step X) (front front' : List X) (count k at : ℕ) (ts : Tokens) (x : X) (j : ℕ) (us : Tokens) (total : Found (List X)) → front' ≡ front ++ x ∷ [] → k < count → step at ts ≡ Ok (Some (x, j, us))
     → with_front front (gather step (count - k) at ts) ≡ total → with_front front' (gather step (count - (k + 1)) j us) ≡ total
 goes_on_with step front front' count k at ts x j us total e less found so_far = ap (λ xs. with_front xs (gather step (count - (k + 1)) j us)) e ∙ goes_on step front count k at ts x j us total less found so_far

@@ -2,7 +2,7 @@
 -- and the tokens from there on, or the first refusal. No promise of this crate is stated by it: it stands between the
 -- code, which follows it step by step, and the grammar and the first refused token, which it is proved to agree with.
 -- A loop counts down a number that is never used up, since each round takes a token.
-use Rattle.std.specs.Prelude.{ℕ, zero, suc, ℤ, Bool, true, false, cond, List, [], ◌∷◌, ◌++◌, length, Option, Some, None, Result, Ok, Err}
+use Rattle.std.specs.Prelude.{ℕ, zero, suc, ℤ, Bool, true, false, cond, not, ◌&&◌, List, [], ◌∷◌, ◌++◌, length, Option, Some, None, Result, Ok, Err}
 use Rattle.std.specs.Int.{w32, int_wrapping_neg}
 use Rattle.ci_tree.specs.declared.token.TokenKind.{TokenKind}
 use Rattle.ci_tree.specs.declared.token.TokenKind.TheVariants.{Name, Keyword, Number, Text, Hashes, Sign}
@@ -551,6 +551,12 @@ with_value f found = do
   x ← found
   Ok (f x.0, x.1, x.2)
 
+-- items that were read before, and those that are read now
+abbrev pub items_with : List Item → Result (List Item) Refusal → Result (List Item) Refusal
+items_with front found = do
+  is ← found
+  Ok (front ++ is)
+
 abbrev pub link_by : Reader Expr → ℕ → Tokens → Joint → Result (Option (to.Link × ℕ × Tokens)) Refusal
 link_by member i ts no_joint = Ok None
 link_by member i ts (by_operator op) = do
@@ -574,3 +580,57 @@ comma_step member i ts =
       m ← member comma.0 comma.1
       Ok (Some m))
     (Ok None)
+
+-- Statements and clauses, as the code has them
+
+-- the readers inside a construct, where so many levels are free
+abbrev pub within : ℕ → Inside
+within free = record { expression = expression free; body = body free }
+
+-- the same one level further in, where a level is free
+abbrev pub inside_of : ℕ → Option Inside
+inside_of zero = None
+inside_of (suc free) = Some (within free)
+
+-- a call that stands alone, behind the parenthesis; its name is at this index
+abbrev pub call_alone : Reader Expr → (at : ℕ) → List ℕ → Reader Stmt
+call_alone expression at x i ts = do
+  args ← arguments expression i ts
+  closed ← expect (is_sign mark.RightParen) args.1 args.2
+  Ok (to.call_of at x args.0, closed.0, closed.1)
+
+-- a clause with labels is next
+abbrev pub begins_clause : Tokens → Bool
+begins_clause [] = false
+begins_clause (t ∷ ts) = is_keyword words.Case t && not (begins_with words.Else ts)
+
+-- a clause with labels
+abbrev pub clause : Inside → Reader to.Clause
+clause inside i ts = do
+  word ← expect (is_keyword words.Case) i ts
+  labels ← members (label inside.expression) word.0 word.1
+  b ← inside.body labels.1 labels.2
+  Ok (record { at = i; labels = labels.0; body = b.0 }, b.1, b.2)
+
+-- [ "CASE" "ELSE" Body ], behind the clauses with labels
+abbrev pub case_else : Inside → Reader Other
+case_else inside i ts =
+    cond (begins_with words.Case ts)
+    (do
+      word ← expect (is_keyword words.Case) i ts
+      else_word ← expect (is_keyword words.Else) word.0 word.1
+      b ← inside.body else_word.0 else_word.1
+      Ok (to.other b.0, b.1, b.2))
+    (Ok (to.no_other, i, ts))
+
+-- what stands behind the clauses with labels
+abbrev pub cases_end : Inside → Reader Other
+cases_end inside i ts = do
+  o ← case_else inside i ts
+  end_word ← expect (is_keyword words.End) o.1 o.2
+  select_word ← expect (is_keyword words.Select) end_word.0 end_word.1
+  Ok (o.0, select_word.0, select_word.1)
+
+-- clauses, and what stands behind them
+abbrev pub cases_of : Clauses → Other → CasesTree
+cases_of clauses behind = record { clauses = clauses; other = behind }

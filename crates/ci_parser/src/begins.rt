@@ -5,6 +5,7 @@ ghost use Rattle.ci_tree.specs.Refused.{begins, has_rule, rule};
 ghost use Rattle.ci_parser.specs.Gives.{kinds};
 
 use crate::cursor::{Cursor, is_keyword, is_sign, next, type_of};
+use crate::operators::{Joint, joint_in};
 use ci_tree::{Keyword, Sign, TokenKind};
 
 /// This sign is next.
@@ -48,6 +49,26 @@ pub fn begins_expression(here: Cursor) -> bool
     match next(here) {
         None => false,
         Some((kind, _)) => is_first_of_expression(kind),
+    }
+}
+
+/// The token joins one more member to a chain of this group.
+fn is_joint(kind: &TokenKind, group: u32) -> bool
+    ensures { result ≡ has_rule (rule (ask.rest group) kind.now) }
+{
+    match joint_in(kind, group) {
+        None => false,
+        Some(Joint::Operator(_) | Joint::Colon) => true,
+    }
+}
+
+/// One more member of a chain of this group is next.
+pub fn begins_rest(here: Cursor, group: u32) -> bool
+    ensures { result ≡ begins (ask.rest group) (kinds here.entry.left.now) }
+{
+    match next(here) {
+        None => false,
+        Some((kind, _)) => is_joint(kind, group),
     }
 }
 

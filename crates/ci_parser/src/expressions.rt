@@ -6,7 +6,7 @@ ghost use Rattle.ci_tree.specs.Seen.{expr_of, link_of, exprs_of, links_of};
 ghost use Rattle.ci_parser.specs.Gives.{kinds, Gives};
 ghost use Rattle.ci_parser.specs.Reading as reading;
 
-use crate::begins::{begins_expression, begins_sign};
+use crate::begins::{begins_expression, begins_rest, begins_sign};
 use crate::cursor::{Cursor, below, expect_sign, hashes_at, next};
 use crate::fault::ParseFault;
 use crate::operators::{Joint, joint_in};
@@ -32,6 +32,9 @@ fn level(alloc: Global, free: u32, group: u32, here: Cursor) -> Result<(Expr, Cu
         return unary(alloc, free, here);
     };
     let (first, behind) = level(alloc, free, lower, here)?;
+    if !begins_rest(behind, lower) {
+        return Ok((first, behind));
+    }
     let (links, after) = rest(alloc, free, lower, behind)?;
     Ok((chain(alloc, here.at, first, behind.at, links)?, after))
 }

@@ -1,5 +1,5 @@
 //! First values, variables and parameters.
-ghost use Rattle.std.specs.Prelude.{◌≡◌};
+ghost use Rattle.std.specs.Prelude.{◌≡◌, option_map};
 ghost use Rattle.ci_tree.specs.Seen.{item_of};
 ghost use Rattle.ci_parser.specs.Gives.{kinds, Gives};
 ghost use Rattle.ci_parser.specs.Reading as reading;
@@ -72,6 +72,22 @@ pub fn variable(
     variable_end(alloc, global, kind, here.at, name, behind)
 }
 
+/// One more variable behind a comma, if there is a comma.
+pub fn other_variable(
+    alloc: Global,
+    global: bool,
+    kind: TypeAt,
+    here: Cursor,
+) -> Result<Option<(Item, Cursor)>, ParseFault>
+    ensures { Gives (λ x. option_map (λ y. (item_of y.0, y.1.at, kinds y.1.left.now)) x) result (reading.comma_step (reading.var global kind) here.entry.at (kinds here.entry.left.now)) }
+{
+    if !begins_sign(here, Sign::Comma) {
+        return Ok(None);
+    }
+    let behind = expect_sign(here, Sign::Comma)?;
+    Ok(Some(variable(alloc, global, kind, behind)?))
+}
+
 /// The length or the first value of a variable, if it has one.
 fn variable_end(
     alloc: Global,
@@ -135,4 +151,15 @@ pub fn parameter(alloc: Global, here: Cursor) -> Result<(Param, Cursor), ParseFa
         },
         after,
     ))
+}
+
+/// One more parameter behind a comma, if there is a comma.
+pub fn other_parameter(alloc: Global, here: Cursor) -> Result<Option<(Param, Cursor)>, ParseFault>
+    ensures { Gives (λ x. option_map (λ y. (y.0, y.1.at, kinds y.1.left.now)) x) result (reading.comma_step reading.parameter here.entry.at (kinds here.entry.left.now)) }
+{
+    if !begins_sign(here, Sign::Comma) {
+        return Ok(None);
+    }
+    let behind = expect_sign(here, Sign::Comma)?;
+    Ok(Some(parameter(alloc, behind)?))
 }
