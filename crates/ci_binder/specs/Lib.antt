@@ -1,0 +1,10 @@
+pub mod Binding
+pub mod Declarations
+pub mod Expressions
+pub mod Fault
+pub mod Faults
+pub mod Given
+pub mod Kinds
+pub mod Laws
+pub mod Scopes
+pub mod Statements
