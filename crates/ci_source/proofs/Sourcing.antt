@@ -8,13 +8,14 @@ use Rattle.ci_lexer.specs.declared.fault.LexFault.TheVariants as lex_faults
 use Rattle.ci_lexer.specs.Faults as lexical
 use Rattle.ci_lexer.specs.Faults.{lex_fault, FaultAt}
 use Rattle.ci_parser.specs.Gives.{kinds}
+use Rattle.ci_parser.specs.Refusals.{IsRefusal}
 use Rattle.ci_source.specs.declared.fault.Fault.{Fault}
 use Rattle.ci_source.specs.FirstForm.{first_form, item_project, project_of, named_project, name_as_main, traced_texts, text_before}
 use Rattle.ci_parser.specs.declared.fault.ParseFault.{ParseFault}
 use Rattle.ci_parser.specs.declared.fault.ParseFault.TheVariants as parse_faults
 use Rattle.ci_source.specs.declared.telling.SourceFault.{SourceFault}
 use Rattle.ci_source.specs.declared.telling.SourceFault.TheVariants as source_faults
-use Rattle.ci_source.specs.Telling.{IsMain, IsRefusedAs, NamesToken, ParseTold, Told, IsRefusal}
+use Rattle.ci_source.specs.Telling.{IsMain, CanRun, IsRefusedAs, NamesToken, ParseTold, Told}
 use Rattle.ci_source.specs.Sources.{lexical_fault, grammar_fault}
 use Rattle.ci_tree.specs.declared.project.Project.{Project}
 use Rattle.ci_tree.specs.declared.token.Token.{Token}
@@ -248,7 +249,7 @@ form-main (item ∷ more) project is = item-main item project (only_item item mo
 -- Reading a source
 
 -- the fault names a token
-pub names-token : (ts : List Token) (f : ParseFault) → IsRefusal ts f → NamesToken f ts
+pub names-token : (ts : List Token) (f : ParseFault) → IsRefusal (kinds ts) f → NamesToken f ts
 names-token ts (parse_faults.Unexpected at) is = refused-before ts (unexpected at) is
 names-token ts parse_faults.UnexpectedEnd is = tt
 names-token ts (parse_faults.TooDeep at) is = refused-before ts (too_deep at) is
@@ -260,8 +261,12 @@ told-refused source ts r (source_faults.Refused fault offset) reads is told =
 told-refused source ts r source_faults.Memory reads is told = absurd told
 
 -- a refused token is the first fault of its source
-pub parse-refused : (source : List ℕ) (ts : List Token) (f : ParseFault) (result : SourceFault) → tokens source ts → IsRefusal ts f → ParseTold source ts f result → IsRefusedAs source result
+pub parse-refused : (source : List ℕ) (ts : List Token) (f : ParseFault) (result : SourceFault) → tokens source ts → IsRefusal (kinds ts) f → ParseTold source ts f result → IsRefusedAs source result
 parse-refused source ts (parse_faults.Unexpected at) result reads is told = told-refused source ts (unexpected at) result reads is told
 parse-refused source ts parse_faults.UnexpectedEnd result reads is told = told-refused source ts unexpected_end result reads is told
 parse-refused source ts (parse_faults.TooDeep at) result reads is told = told-refused source ts (too_deep at) result reads is told
 parse-refused source ts parse_faults.Memory result reads is told = let P : SourceFault → Type 0 = IsRefusedAs source in subst P (sym told) tt
+
+-- a tree of the first form gives a project that can be run
+pub form-runs : (ts : List Token) (tree : List to.Item) (project : Project) → said.derives (kinds ts) tree → first_form tree ≡ Some project → length ts ≤ 262144 → CanRun project
+form-runs ts tree project derived form within = record { main = form-main tree project form; few = few_texts ts tree project derived form within }

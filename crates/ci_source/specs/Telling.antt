@@ -7,8 +7,7 @@ use Rattle.ci_parser.specs.declared.fault.ParseFault.{ParseFault}
 use Rattle.ci_parser.specs.declared.fault.ParseFault.TheVariants as parse_faults
 use Rattle.ci_tree.specs.declared.project.Project.{Project}
 use Rattle.ci_tree.specs.declared.token.Token.{Token}
-use Rattle.ci_tree.specs.Refused.{refused_at, unexpected, unexpected_end, too_deep}
-use Rattle.ci_parser.specs.Gives.{kinds}
+use Rattle.ci_tree.specs.Refused.{unexpected, unexpected_end, too_deep}
 use Rattle.ci_source.specs.declared.fault.Fault.{Fault}
 use Rattle.ci_source.specs.declared.telling.SourceFault.{SourceFault}
 use Rattle.ci_source.specs.declared.telling.SourceFault.TheVariants as source_faults
@@ -17,6 +16,11 @@ use Rattle.ci_source.specs.Sources.{HasFault, lexical_fault, grammar_fault}
 -- a task can be started from the project's function by the name Main
 abbrev pub IsMain : Project → Type 0
 IsMain project = str_eq_ignore_ascii_case (codes "Main") project.name ≡ true
+
+-- The project can be run: a task can be started from its function, and its work will stay within the default budget.
+pub record CanRun (project : Project) : Type 0 where
+  pub main : IsMain project
+  pub few : length project.traces ≤ 65536
 
 -- the first fault of the source, at an offset within it; want of memory says nothing
 abbrev pub IsRefusedAs : List ℕ → SourceFault → Type 0
@@ -46,10 +50,3 @@ ParseTold source ts (parse_faults.Unexpected at) told = Told (grammar_fault sour
 ParseTold source ts parse_faults.UnexpectedEnd told = Told (grammar_fault source ts unexpected_end) told
 ParseTold source ts (parse_faults.TooDeep at) told = Told (grammar_fault source ts (too_deep at)) told
 ParseTold source ts parse_faults.Memory told = told ≡ source_faults.Memory
-
--- the parser's fault is what is refused first of the tokens; want of memory says nothing
-abbrev pub IsRefusal : List Token → ParseFault → Type 0
-IsRefusal ts (parse_faults.Unexpected at) = refused_at (kinds ts) ≡ Some (unexpected at)
-IsRefusal ts parse_faults.UnexpectedEnd = refused_at (kinds ts) ≡ Some unexpected_end
-IsRefusal ts (parse_faults.TooDeep at) = refused_at (kinds ts) ≡ Some (too_deep at)
-IsRefusal ts parse_faults.Memory = Unit {0}

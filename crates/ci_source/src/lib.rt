@@ -4,6 +4,7 @@
 mod fault;
 mod form;
 mod laws;
+mod reading;
 mod telling;
 #[cfg(test)]
 mod tests;
@@ -11,4 +12,5 @@ mod tests;
 pub use fault::{Fault, fault_text};
 pub use form::{FormFault, first_form};
 pub use laws::one_meaning;
+pub use reading::read_source;
 pub use telling::{SourceFault, grammar_fault, lexical_fault};

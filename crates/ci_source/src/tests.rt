@@ -1,3 +1,11 @@
+mod asked;
+mod chains;
+mod nesting;
+mod places;
+mod printer;
+mod productions;
+mod refusals;
+
 use crate::*;
 use ci_base::{Bytes, OutOfMemory};
 use ci_lexer::LexFault;
@@ -78,4 +86,28 @@ fn faults_are_told_at_their_offsets(rt: HostRuntime) {
         b"nesting too deep".as_slice()
     );
     one_meaning();
+}
+
+#[test]
+fn a_source_gives_its_project_or_its_first_fault(rt: HostRuntime) -> Result<(), Fail> {
+    let source = b"function main() tracemsg(\"hi\") ; end";
+    let Ok(project) = read_source(rt.alloc(), source) else {
+        return Err(Fail::from("a project"));
+    };
+    assert_eq!(rt; project.name.bytes(), b"main".as_slice());
+    assert_eq!(rt; project.traces.texts().len(), 1);
+    let rows: [(&[u8], Fault, u32); 4] = [
+        (b"END @", Fault::StrayByte, 4),
+        (b"FUNCTION Main() END END", Fault::UnexpectedToken, 20),
+        (b"FUNCTION Main()", Fault::UnexpectedEnd, 15),
+        (b" FUNCTION Main() RETURN; END", Fault::NotBuilt, 0),
+    ];
+    for (source, fault, offset) in rows {
+        assert!(rt; source.len() <= 262_144);
+        let Err(refusal) = read_source(rt.alloc(), source) else {
+            return Err(Fail::from("a fault"));
+        };
+        assert_eq!(rt; refusal, SourceFault::Refused { fault, offset });
+    }
+    Ok(())
 }

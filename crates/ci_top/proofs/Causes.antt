@@ -3,13 +3,15 @@ use Rattle.std.proofs.Common.{◌≡◌, ℕ, ◌<◌, ◌≤◌, List, [], ◌�
 use Rattle.std.specs.FinMap.{get}
 use Rattle.ci_outside.specs.Causes.{Rose}
 use Rattle.ci_outside.specs.Shelf.{Files, HasFile}
+use Rattle.ci_source.specs.declared.fault.Fault.{Fault}
+use Rattle.ci_source.specs.Sources.{HasFault}
+use Rattle.ci_source.specs.Laws.{HasOneFirstFault, NeverBothMeanings}
 use Rattle.ci_tree.specs.declared.project.Project.{Project}
 use Rattle.ci_top.specs.declared.decision.FileFault.{FileFault}
 use Rattle.ci_top.specs.declared.decision.WordsFault.{WordsFault}
 use Rattle.ci_top.specs.declared.decision.FileFault.TheVariants as faults
-use Rattle.ci_top.specs.Answers.{Kept, words_refused, not_fetched, source_refused, no_memory, ran, FaultHolds, Fetched, ComesTo, HasAll, IsRun, IsRefused}
+use Rattle.ci_top.specs.Answers.{Kept, words_refused, not_fetched, source_refused, no_memory, ran, FaultHolds, Fetched, ComesTo, HasAll, Compiles, IsRun, IsRefused}
 use Rattle.ci_top.specs.Defaults.{source_limit}
-use Rattle.ci_top.specs.FirstForm.{Compiles}
 use Rattle.ci_top.specs.OneCause.{OneCause}
 use Rattle.ci_top.specs.Order.{Order, order}
 use Rattle.ci_top.specs.World.{World}
@@ -123,10 +125,11 @@ all_contents words files contents contents' one two =
     one_contents files one.asked.names contents contents' one.fetched (subst Family (one_order words two.asked one.asked two.words_are one.words_are) two.fetched)
 
 -- a source that is refused isn't run
-refused-not_run : (words : List (List ℕ)) (files : Files) (kept : Kept) (name : List ℕ) (project : Project) (world : World) → IsRefused words (Some files) name → IsRun words (Some files) kept project world → ⊥
-refused-not_run words files kept name project world refused run =
+refused-not_run : NeverBothMeanings → (words : List (List ℕ)) (files : Files) (kept : Kept) (name source : List ℕ) (fault : Fault) (offset : ℕ) (project : Project) (world : World)
+    → IsRefused words (Some files) name source fault offset → IsRun words (Some files) kept project world → ⊥
+refused-not_run never_both words files kept name source fault offset project world refused run =
     let Family : List (List ℕ) → Type 0 = λ l. Compiles l project in
-    refused.refused project (subst Family (all_contents words files run.contents refused.contents run.read refused.read) run.compiled)
+    never_both source project fault offset (subst Family (all_contents words files run.contents (source ∷ []) run.read refused.read) run.compiled) refused.refused
 
 -- the first of the files has one name
 first_name : (words : List (List ℕ)) (files : Option Files) (name other : List ℕ) → ComesTo words files 1 name → ComesTo words files 1 other → name ≡ other
@@ -153,32 +156,45 @@ same_file words files before now fault other number number' name name' calm one 
     let numbers_same : number ≡ number' = omega (arith, one.number_is, two.number_is, found.0) in
     cc
 
+-- a source is refused in one way
+same_refusal : HasOneFirstFault → (words : List (List ℕ)) (files : Files) (name name' source source' : List ℕ) (fault fault' : Fault) (offset offset' : ℕ)
+    → IsRefused words (Some files) name source fault offset → IsRefused words (Some files) name' source' fault' offset' → source_refused name source fault offset ≡ source_refused name' source' fault' offset'
+same_refusal one_fault words files name name' source source' fault fault' offset offset' one two =
+    let lists : source ∷ [] ≡ source' ∷ [] = all_contents words files (source ∷ []) (source' ∷ []) one.read two.read in
+    let sources : source ≡ source' = cc in
+    let names : name ≡ name' = first_name words (Some files) name name' one.first two.first in
+    let Family : List ℕ → Type 0 = λ s. HasFault s fault' offset' in
+    let found : (fault ≡ fault') × (offset ≡ offset') = one_fault source fault fault' offset offset' one.refused (subst Family (sym sources) two.refused) in
+    let faults_same : fault ≡ fault' = found.0 in
+    let offsets_same : offset ≡ offset' = found.1 in
+    cc
+
 -- two causes that hold agree
-pub one_cause_lem : OneCause
-one_cause_lem words files before now kept kept' (words_refused fault) (words_refused other) calm one two = inl (ap words_refused (one_refusal words fault other one.1 two.1))
-one_cause_lem words files before now kept kept' (words_refused fault) (not_fetched f number name) calm one two = absurd (order_clash words two.1.asked fault two.1.words_are one.1)
-one_cause_lem words files before now kept kept' (words_refused fault) (source_refused name) calm one two = absurd (order_clash words two.1.read.asked fault two.1.read.words_are one.1)
-one_cause_lem words files before now kept kept' (words_refused fault) no_memory calm one two = inr refl
-one_cause_lem words files before now kept kept' (words_refused fault) (ran project world) calm one two = absurd (order_clash words two.read.asked fault two.read.words_are one.1)
-one_cause_lem words files before now kept kept' (not_fetched f number name) (words_refused fault) calm one two = absurd (order_clash words one.1.asked fault one.1.words_are two.1)
-one_cause_lem words files before now kept kept' (not_fetched f number name) (not_fetched f' number' name') calm one two =
+pub one_cause_lem : HasOneFirstFault → NeverBothMeanings → OneCause
+one_cause_lem one_fault never_both words files before now kept kept' (words_refused fault) (words_refused other) calm one two = inl (ap words_refused (one_refusal words fault other one.1 two.1))
+one_cause_lem one_fault never_both words files before now kept kept' (words_refused fault) (not_fetched f number name) calm one two = absurd (order_clash words two.1.asked fault two.1.words_are one.1)
+one_cause_lem one_fault never_both words files before now kept kept' (words_refused fault) (source_refused name source other offset) calm one two = absurd (order_clash words two.1.read.asked fault two.1.read.words_are one.1)
+one_cause_lem one_fault never_both words files before now kept kept' (words_refused fault) no_memory calm one two = inr refl
+one_cause_lem one_fault never_both words files before now kept kept' (words_refused fault) (ran project world) calm one two = absurd (order_clash words two.read.asked fault two.read.words_are one.1)
+one_cause_lem one_fault never_both words files before now kept kept' (not_fetched f number name) (words_refused fault) calm one two = absurd (order_clash words one.1.asked fault one.1.words_are two.1)
+one_cause_lem one_fault never_both words files before now kept kept' (not_fetched f number name) (not_fetched f' number' name') calm one two =
     inl (same_file words files before now f f' number number' name name' calm one.1 one.2 two.1 two.2)
-one_cause_lem words files before now kept kept' (not_fetched f number name) (source_refused name') calm one two =
-    absurd (not_all words files before now number f name two.1.contents calm one.1 one.2 two.1.read)
-one_cause_lem words files before now kept kept' (not_fetched f number name) no_memory calm one two = inr refl
-one_cause_lem words files before now kept kept' (not_fetched f number name) (ran project world) calm one two =
+one_cause_lem one_fault never_both words files before now kept kept' (not_fetched f number name) (source_refused name' source fault offset) calm one two =
+    absurd (not_all words files before now number f name (source ∷ []) calm one.1 one.2 two.1.read)
+one_cause_lem one_fault never_both words files before now kept kept' (not_fetched f number name) no_memory calm one two = inr refl
+one_cause_lem one_fault never_both words files before now kept kept' (not_fetched f number name) (ran project world) calm one two =
     absurd (not_all words files before now number f name two.contents calm one.1 one.2 two.read)
-one_cause_lem words files before now kept kept' (source_refused name) (words_refused fault) calm one two = absurd (order_clash words one.1.read.asked fault one.1.read.words_are two.1)
-one_cause_lem words files before now kept kept' (source_refused name) (not_fetched f number name') calm one two =
-    absurd (not_all words files before now number f name' one.1.contents calm two.1 two.2 one.1.read)
-one_cause_lem words files before now kept kept' (source_refused name) (source_refused other) calm one two =
-    inl (ap source_refused (first_name words (Some files) name other one.1.first two.1.first))
-one_cause_lem words files before now kept kept' (source_refused name) no_memory calm one two = inr refl
-one_cause_lem words files before now kept kept' (source_refused name) (ran project world) calm one two = absurd (refused-not_run words files kept' name project world one.1 two)
-one_cause_lem words files before now kept kept' no_memory other calm one two = inr refl
-one_cause_lem words files before now kept kept' (ran project world) (words_refused fault) calm one two = absurd (order_clash words one.read.asked fault one.read.words_are two.1)
-one_cause_lem words files before now kept kept' (ran project world) (not_fetched f number name) calm one two =
+one_cause_lem one_fault never_both words files before now kept kept' (source_refused name source other offset) (words_refused fault) calm one two = absurd (order_clash words one.1.read.asked fault one.1.read.words_are two.1)
+one_cause_lem one_fault never_both words files before now kept kept' (source_refused name source fault offset) (not_fetched f number name') calm one two =
+    absurd (not_all words files before now number f name' (source ∷ []) calm two.1 two.2 one.1.read)
+one_cause_lem one_fault never_both words files before now kept kept' (source_refused name source fault offset) (source_refused name' source' fault' offset') calm one two =
+    inl (same_refusal one_fault words files name name' source source' fault fault' offset offset' one.1 two.1)
+one_cause_lem one_fault never_both words files before now kept kept' (source_refused name source fault offset) no_memory calm one two = inr refl
+one_cause_lem one_fault never_both words files before now kept kept' (source_refused name source fault offset) (ran project world) calm one two = absurd (refused-not_run never_both words files kept' name source fault offset project world one.1 two)
+one_cause_lem one_fault never_both words files before now kept kept' no_memory other calm one two = inr refl
+one_cause_lem one_fault never_both words files before now kept kept' (ran project world) (words_refused fault) calm one two = absurd (order_clash words one.read.asked fault one.read.words_are two.1)
+one_cause_lem one_fault never_both words files before now kept kept' (ran project world) (not_fetched f number name) calm one two =
     absurd (not_all words files before now number f name one.contents calm two.1 two.2 one.read)
-one_cause_lem words files before now kept kept' (ran project world) (source_refused name) calm one two = absurd (refused-not_run words files kept name project world two.1 one)
-one_cause_lem words files before now kept kept' (ran project world) no_memory calm one two = inr refl
-one_cause_lem words files before now kept kept' (ran project world) (ran project' world') calm one two = inr refl
+one_cause_lem one_fault never_both words files before now kept kept' (ran project world) (source_refused name source fault offset) calm one two = absurd (refused-not_run never_both words files kept name source fault offset project world two.1 one)
+one_cause_lem one_fault never_both words files before now kept kept' (ran project world) no_memory calm one two = inr refl
+one_cause_lem one_fault never_both words files before now kept kept' (ran project world) (ran project' world') calm one two = inr refl

@@ -1,10 +1,10 @@
 -- The causes of decisions.
-use Rattle.std.proofs.Common.{◌≡◌, ℕ, ◌≤◌, List, [], ◌∷◌, length, Option, Ok, refl, Bor}
+use Rattle.std.proofs.Common.{◌≡◌, ℕ, ◌≤◌, List, [], ◌∷◌, ◌++◌, length, Option, Ok, refl, ap, Bor}
 use Rattle.ci_outside.specs.Shelf.{Files, HasFile}
 use Rattle.ci_top.specs.declared.decision.Decision.{Decision}
 use Rattle.ci_top.specs.declared.decision.Decision.TheVariants as decisions
 use Rattle.ci_top.specs.declared.decision.FileFault.{FileFault}
-use Rattle.ci_top.specs.Answers.{ComesTo, FaultHolds, not_fetched, source_refused, no_memory, ran}
+use Rattle.ci_top.specs.Answers.{ComesTo, FaultHolds, not_fetched, source_refused, no_memory, ran, told_text}
 use Rattle.ci_top.specs.Decisions.{Decided, OfSource}
 use Rattle.ci_top.specs.Order.{order}
 
@@ -36,28 +36,27 @@ pub decided-source : (words : List (List ℕ)) (files : Option Files) (before no
     → OfSource name source decision → Decided words files before now decision
 decided-source words files before now name source (decisions.WordsRefused fault) asked has within none = absurd none
 decided-source words files before now name source (decisions.NotFetched fault number other) asked has within none = absurd none
-decided-source words files before now name source (decisions.SourceRefused refused) asked has within (named, none) = record {
-  cause = source_refused refused.now;
+decided-source words files before now name source (decisions.SourceRefused refused fault at) asked has within (named, offset, holds, place_is) = record {
+  cause = source_refused refused.now source fault offset;
   holds = (
     refl,
     record {
-      contents = source ∷ [];
       read = record { asked = _; words_are = asked; fetched = (has, within, tt) };
-      refused = none;
       first = rw named (comes-to words files name asked);
+      refused = holds;
     },
   );
-  text_is = refl;
+  text_is = ap (λ p. refused.now ++ told_text p fault) place_is;
   status_is = refl;
   told = tt;
 }
 decided-source words files before now name source decisions.NoMemory asked has within of_source = decided-no_memory words files before now name asked
-decided-source words files before now name source (decisions.Ran r) asked has within (project, form, whole) = record {
+decided-source words files before now name source (decisions.Ran r) asked has within (project, means, whole) = record {
   cause = ran project whole.world;
   holds = record {
     contents = source ∷ [];
     read = record { asked = _; words_are = asked; fetched = (has, within, tt) };
-    compiled = form;
+    compiled = means;
     run = whole.run;
     loose = whole.loose;
     ends = whole.ends;

@@ -1,6 +1,3 @@
-pub mod Prefixes
-pub mod Calls
-pub mod Reading
 pub mod Running
 pub mod Writing
 pub mod Deciding

@@ -32,7 +32,7 @@ no_five kept (words_refused fault) e = omega arith
 no_five kept (not_fetched faults.Absent number name) e = omega arith
 no_five kept (not_fetched faults.ReadFault number name) e = omega arith
 no_five kept (not_fetched faults.TooLong number name) e = omega arith
-no_five kept (source_refused name) e = omega arith
+no_five kept (source_refused name source fault offset) e = omega arith
 no_five kept no_memory e = omega arith
 no_five kept (ran project world) e = elim (ending_small kept.ending 5 e) [ inl h ↦ omega arith | inr h ↦ elim h [ inl i ↦ omega arith | inr i ↦ omega arith ] ]
 
@@ -42,7 +42,7 @@ fifteen words files before now kept (words_refused fault) holds e = absurd (omeg
 fifteen words files before now kept (not_fetched faults.Absent number name) holds e = absurd (omega arith)
 fifteen words files before now kept (not_fetched faults.ReadFault number name) holds e = holds.2
 fifteen words files before now kept (not_fetched faults.TooLong number name) holds e = absurd (omega arith)
-fifteen words files before now kept (source_refused name) holds e = absurd (omega arith)
+fifteen words files before now kept (source_refused name source fault offset) holds e = absurd (omega arith)
 fifteen words files before now kept no_memory holds e = absurd (omega arith)
 fifteen words files before now kept (ran project world) holds e = absurd (elim (ending_small kept.ending 15 e) [ inl h ↦ omega arith | inr h ↦ elim h [ inl i ↦ omega arith | inr i ↦ omega arith ] ])
 
@@ -55,7 +55,7 @@ two words files before now kept (words_refused fault) holds e = is_err words fau
 two words files before now kept (not_fetched faults.Absent number name) holds e = absurd (omega arith)
 two words files before now kept (not_fetched faults.ReadFault number name) holds e = absurd (omega arith)
 two words files before now kept (not_fetched faults.TooLong number name) holds e = absurd (omega arith)
-two words files before now kept (source_refused name) holds e = absurd (omega arith)
+two words files before now kept (source_refused name source fault offset) holds e = absurd (omega arith)
 two words files before now kept no_memory holds e = absurd (omega arith)
 two words files before now kept (ran project world) holds e = absurd (elim (ending_small kept.ending 2 e) [ inl h ↦ omega arith | inr h ↦ elim h [ inl i ↦ omega arith | inr i ↦ omega arith ] ])
 
@@ -70,7 +70,7 @@ not_err words asked e is_error =
 refused : (words : List (List ℕ)) (files : Option Files) (before now : ℕ) (kept : Kept) (cause : Cause) → Holds words files before now kept cause → IsErr (order words) → status_of kept cause ≡ 2
 refused words files before now kept (words_refused fault) holds is_error = refl
 refused words files before now kept (not_fetched fault number name) holds is_error = absurd (not_err words holds.1.asked holds.1.words_are is_error)
-refused words files before now kept (source_refused name) holds is_error = absurd (not_err words holds.1.read.asked holds.1.read.words_are is_error)
+refused words files before now kept (source_refused name source fault offset) holds is_error = absurd (not_err words holds.1.read.asked holds.1.read.words_are is_error)
 refused words files before now kept no_memory holds is_error = absurd (not_err words holds.1 holds.2 is_error)
 refused words files before now kept (ran project world) holds is_error = absurd (not_err words holds.read.asked holds.read.words_are is_error)
 
@@ -78,7 +78,7 @@ refused words files before now kept (ran project world) holds is_error = absurd 
 six : (words : List (List ℕ)) (files : Option Files) (before now : ℕ) (kept : Kept) (cause : Cause) → Holds words files before now kept cause → 6 ≡ status_of kept cause → kept ≡ nothing_kept
 six words files before now kept (words_refused fault) holds e = holds.0
 six words files before now kept (not_fetched fault number name) holds e = holds.0
-six words files before now kept (source_refused name) holds e = holds.0
+six words files before now kept (source_refused name source fault offset) holds e = holds.0
 six words files before now kept no_memory holds e = holds.0
 six words files before now kept (ran project world) holds e = absurd (elim (ending_small kept.ending 6 e) [ inl h ↦ omega arith | inr h ↦ elim h [ inl i ↦ omega arith | inr i ↦ omega arith ] ])
 
@@ -86,7 +86,7 @@ six words files before now kept (ran project world) holds e = absurd (elim (endi
 not_run : (words : List (List ℕ)) (files : Option Files) (before now : ℕ) (kept : Kept) (cause : Cause) → Holds words files before now kept cause → kept.ending ≡ endings.NotRun → kept ≡ nothing_kept
 not_run words files before now kept (words_refused fault) holds e = holds.0
 not_run words files before now kept (not_fetched fault number name) holds e = holds.0
-not_run words files before now kept (source_refused name) holds e = holds.0
+not_run words files before now kept (source_refused name source fault offset) holds e = holds.0
 not_run words files before now kept no_memory holds e = holds.0
 not_run words files before now kept (ran project world) holds e = absurd (no_end kept.ending e holds.ends.as_it_ends) where
   no_end : (ending : Ending) → ending ≡ endings.NotRun → EndsAs world (work kept.history kept.loose) default_budget ending → ⊥
@@ -106,7 +106,7 @@ zero_is_run words files b n before after outcome (words_refused fault) holds e p
 zero_is_run words files b n before after outcome (not_fetched faults.Absent number name) holds e put = absurd (omega arith)
 zero_is_run words files b n before after outcome (not_fetched faults.ReadFault number name) holds e put = absurd (omega arith)
 zero_is_run words files b n before after outcome (not_fetched faults.TooLong number name) holds e put = absurd (omega arith)
-zero_is_run words files b n before after outcome (source_refused name) holds e put = absurd (omega arith)
+zero_is_run words files b n before after outcome (source_refused name source fault offset) holds e put = absurd (omega arith)
 zero_is_run words files b n before after outcome no_memory holds e put = absurd (omega arith)
 zero_is_run words files b n before after outcome (ran project world) holds e put = record {
   project = project;

@@ -8,6 +8,8 @@ use Rattle.ci_base.specs.declared.entry.Entry.{Entry}
 use Rattle.ci_base.specs.declared.limits.Ending.{Ending}
 use Rattle.ci_base.specs.declared.limits.Ending.TheVariants as endings
 use Rattle.ci_base.specs.declared.list.Loose.{Loose}
+use Rattle.ci_base.specs.declared.position.Position.{Position}
+use Rattle.ci_base.specs.Places.{place}
 use Rattle.ci_outside.specs.Causes.{Rose}
 use Rattle.ci_outside.specs.Shelf.{Files, HasFile, LacksFile, HasLongFile}
 use Rattle.ci_outside.specs.Sink.{AppendsFront}
@@ -16,9 +18,11 @@ use Rattle.ci_top.specs.declared.decision.FileFault.TheVariants as faults
 use Rattle.ci_top.specs.declared.decision.WordsFault.{WordsFault}
 use Rattle.ci_top.specs.declared.decision.WordsFault.TheVariants as words_faults
 use Rattle.ci_top.specs.declared.outcome.Outcome.{Outcome}
+use Rattle.ci_source.specs.declared.fault.Fault.{Fault}
+use Rattle.ci_source.specs.Faults.{fault_text as source_fault_text}
+use Rattle.ci_source.specs.Sources.{Means, HasFault}
 use Rattle.ci_tree.specs.declared.project.Project.{Project}
 use Rattle.ci_top.specs.Defaults.{default_script, default_budget, source_limit}
-use Rattle.ci_top.specs.FirstForm.{Compiles}
 use Rattle.ci_top.specs.Order.{Order, order}
 use Rattle.ci_top.specs.Report.{report}
 use Rattle.ci_top.specs.Work.{FitsLoose, Ends}
@@ -61,6 +65,12 @@ pub record HasAll (words : List (List ℕ)) (files : Option Files) (contents : L
   pub words_are : order words ≡ Ok asked
   pub fetched : Fetched files asked.names contents
 
+-- the project of the sources read; one file can be run today
+abbrev pub Compiles : List (List ℕ) → Project → Type 0
+Compiles [] project = ⊥
+Compiles (source ∷ []) project = Means source project
+Compiles (source ∷ more ∷ rest) project = ⊥
+
 -- The history is a run of the preemptive machine on the project of the sources read; this is the world after it, the loose
 -- ticks are made there, and the run ends as it says.
 pub record IsRun (words : List (List ℕ)) (files : Option Files) (kept : Kept) (project : Project) (world : World) : Type 0 where
@@ -71,18 +81,17 @@ pub record IsRun (words : List (List ℕ)) (files : Option Files) (kept : Kept) 
   pub loose : FitsLoose project world kept.loose
   pub ends : Ends world kept.history kept.loose default_budget kept.ending
 
--- the sources were all fetched, and no project is theirs; the first of them has this name
-pub record IsRefused (words : List (List ℕ)) (files : Option Files) (name : List ℕ) : Type 0 where
-  pub contents : List (List ℕ)
-  pub read : HasAll words files contents
-  pub refused : (project : Project) → Compiles contents project → ⊥
+-- the one source, of the file of this name, was fetched, and this is its first fault, at this offset
+pub record IsRefused (words : List (List ℕ)) (files : Option Files) (name source : List ℕ) (fault : Fault) (offset : ℕ) : Type 0 where
+  pub read : HasAll words files (source ∷ [])
   pub first : ComesTo words files 1 name
+  pub refused : HasFault source fault offset
 
 -- why an order is answered as it is
 pub data Cause : Type 0 where
   words_refused : (fault : WordsFault) → Cause
   not_fetched : (fault : FileFault) → (number : ℕ) → (name : List ℕ) → Cause
-  source_refused : (name : List ℕ) → Cause
+  source_refused : (name : List ℕ) → (source : List ℕ) → (fault : Fault) → (offset : ℕ) → Cause
   no_memory : Cause
   ran : (project : Project) → (world : World) → Cause
 
@@ -97,7 +106,7 @@ abbrev pub Holds : List (List ℕ) → Option Files → ℕ → ℕ → Kept →
 Holds words files before now kept (words_refused fault) = (kept ≡ nothing_kept) × (order words ≡ Err fault)
 Holds words files before now kept (not_fetched fault number name) =
     (kept ≡ nothing_kept) × ComesTo words files number name × FaultHolds files before now fault name
-Holds words files before now kept (source_refused name) = (kept ≡ nothing_kept) × IsRefused words files name
+Holds words files before now kept (source_refused name source fault offset) = (kept ≡ nothing_kept) × IsRefused words files name source fault offset
 Holds words files before now kept no_memory = (kept ≡ nothing_kept) × (asked : Order) × (order words ≡ Ok asked)
 Holds words files before now kept (ran project world) = IsRun words files kept project world
 
@@ -116,7 +125,7 @@ fault_status faults.TooLong = 9
 abbrev pub status_of : Kept → Cause → ℕ
 status_of kept (words_refused fault) = 2
 status_of kept (not_fetched fault number name) = fault_status fault
-status_of kept (source_refused name) = 1
+status_of kept (source_refused name source fault offset) = 1
 status_of kept no_memory = 6
 status_of kept (ran project world) = ending_status kept.ending
 
@@ -128,12 +137,16 @@ fault_text faults.TooLong = codes "too long"
 abbrev pub words_text : WordsFault → List ℕ
 words_text (words_faults.NotBuilt index) = codes "words " ++ decimal index ++ codes ": form not built\n"
 
+-- what is told of a source behind its name: the line and the column, and the fault there
+abbrev pub told_text : Position → Fault → List ℕ
+told_text at fault = codes ":" ++ decimal at.line ++ codes ":" ++ decimal at.column ++ codes ": " ++ source_fault_text fault ++ codes "\n"
+
 -- the text of a cause
 abbrev pub text_of : Kept → Cause → List ℕ
 text_of kept (words_refused fault) = words_text fault
 text_of kept (not_fetched fault number name) =
     codes "file " ++ decimal number ++ codes " " ++ fault_text fault ++ codes ": " ++ name ++ codes "\n"
-text_of kept (source_refused name) = name ++ codes ":1:1: form not built\n"
+text_of kept (source_refused name source fault offset) = name ++ told_text (place source offset) fault
 text_of kept no_memory = codes "out of memory\n"
 text_of kept (ran project world) = report project kept.history world kept.loose kept.ending
 

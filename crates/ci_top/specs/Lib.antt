@@ -7,7 +7,6 @@ pub mod History
 pub mod Report
 pub mod Order
 pub mod Defaults
-pub mod FirstForm
 pub mod Answers
 pub mod Ran
 pub mod Decisions

@@ -7,14 +7,14 @@ use Rattle.ci_top.specs.Answers.{Kept, Cause, words_refused, not_fetched, source
 abbrev pub is_memory : Cause → Bool
 is_memory (words_refused fault) = false
 is_memory (not_fetched fault number name) = false
-is_memory (source_refused name) = false
+is_memory (source_refused name source fault offset) = false
 is_memory no_memory = true
 is_memory (ran project world) = false
 
 abbrev pub is_run : Cause → Bool
 is_run (words_refused fault) = false
 is_run (not_fetched fault number name) = false
-is_run (source_refused name) = false
+is_run (source_refused name source fault offset) = false
 is_run no_memory = false
 is_run (ran project world) = true
 

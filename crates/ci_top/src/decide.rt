@@ -4,11 +4,11 @@ ghost use Rattle.ci_top.specs.Decisions.{Decided, OfSource};
 
 use crate::decision::{Decision, FileFault};
 use crate::defaults::SOURCE_LIMIT;
-use crate::first_form::{FormFault, read_first_form};
 use crate::order::read_words;
 use crate::run::run;
-use ci_base::Bytes;
+use ci_base::{Bytes, place_of};
 use ci_outside::{Fetch, Shelf};
+use ci_source::{SourceFault, read_source};
 use std::alloc::Global;
 
 /// Reads the words, fetches the file that they name, and runs it. The first refusal ends the order.
@@ -20,34 +20,24 @@ pub(crate) fn decide<'w, S: Shelf>(alloc: Global, words: &'w [Bytes], shelf: &mu
         Ok(name) => name,
         Err(fault) => return Decision::WordsRefused(fault),
     };
-    let number = 1;
     match shelf.fetch(alloc, name, SOURCE_LIMIT) {
         Ok(source) => run_source(alloc, name, source.bytes()),
-        Err(Fetch::Absent) => {
-            let fault = FileFault::Absent;
-            Decision::NotFetched {
-                fault,
-                number,
-                name,
-            }
-        }
-        Err(Fetch::Failed) => {
-            let fault = FileFault::ReadFault;
-            Decision::NotFetched {
-                fault,
-                number,
-                name,
-            }
-        }
-        Err(Fetch::TooLong) => {
-            let fault = FileFault::TooLong;
-            Decision::NotFetched {
-                fault,
-                number,
-                name,
-            }
-        }
+        Err(Fetch::Absent) => not_fetched(FileFault::Absent, name),
+        Err(Fetch::Failed) => not_fetched(FileFault::ReadFault, name),
+        Err(Fetch::TooLong) => not_fetched(FileFault::TooLong, name),
         Err(Fetch::Memory) => Decision::NoMemory,
+    }
+}
+
+/// The one file, of this name, isn't fetched.
+fn not_fetched(fault: FileFault, name: &Bytes) -> Decision<'_>
+    ensures { result ≡ Decision.NotFetched fault 1 name.entry }
+{
+    let number = 1;
+    Decision::NotFetched {
+        fault,
+        number,
+        name,
     }
 }
 
@@ -56,10 +46,13 @@ fn run_source<'w>(alloc: Global, name: &'w Bytes, source: &[u8]) -> Decision<'w>
     requires { length source.now ≤ 262144 }
     ensures { OfSource name.now source.now result }
 {
-    let project = match read_first_form(alloc, source) {
+    let project = match read_source(alloc, source) {
         Ok(project) => project,
-        Err(FormFault::NotBuilt) => return Decision::SourceRefused { name },
-        Err(FormFault::Memory) => return Decision::NoMemory,
+        Err(SourceFault::Refused { fault, offset }) => {
+            let place = place_of(source, offset);
+            return Decision::SourceRefused { name, fault, place };
+        }
+        Err(SourceFault::Memory) => return Decision::NoMemory,
     };
     match run(alloc, &project) {
         Ok(ran) => Decision::Ran(ran),

@@ -1,6 +1,7 @@
 //! What becomes of an order.
 use crate::run::Ran;
-use ci_base::Bytes;
+use ci_base::{Bytes, Position};
+use ci_source::Fault;
 
 /// Why the words are refused.
 #[derive(Clone, Copy, Debug, PartialEq, Eq)]
@@ -30,9 +31,11 @@ pub(crate) enum Decision<'w> {
         number: u32,
         name: &'w Bytes,
     },
-    /// The source in the file of this name is refused.
+    /// The source in the file of this name has this first fault, told at this place.
     SourceRefused {
         name: &'w Bytes,
+        fault: Fault,
+        place: Position,
     },
     NoMemory,
     Ran(Ran),

@@ -1,8 +1,13 @@
 //! Laws of the definitions that the contract of the top call cites.
 ghost use Rattle.ci_top.specs.OneCause.{OneCause};
 
+use ci_source::one_meaning;
+
 /// Over a shelf that tells its files and whose faults don't rise, two causes that hold of the same words are the same, unless
-/// one is want of memory or both are runs. So each answer of the top call comes exactly where its cause holds.
+/// one is want of memory or both are runs. So each answer of the top call comes exactly where its cause holds. This rests on the
+/// law that a source has one meaning, which it calls.
 pub fn one_cause()
     ensures { OneCause }
-{}
+{
+    one_meaning();
+}

@@ -4,7 +4,6 @@
 mod decide;
 mod decision;
 mod defaults;
-mod first_form;
 pub mod history;
 pub mod laws;
 mod order;

@@ -1,6 +1,6 @@
 //! The run of a project of the first form: an event starts its one task, which traces its texts and ends.
-ghost use Rattle.std.specs.Prelude.{◌≡◌, ◌+◌, ◌≤◌, true, false, [], ◌∷◌, length, codes, IfOk};
-ghost use Rattle.std.specs.Str.{str_eq_ignore_ascii_case};
+ghost use Rattle.std.specs.Prelude.{◌≡◌, false, [], ◌∷◌, IfOk};
+ghost use Rattle.ci_source.specs.Telling.{CanRun};
 ghost use Rattle.ci_top.specs.Ran.{RanWhole, the_start, the_trace, the_end};
 ghost use Rattle.ci_base.specs.declared.place.Status.TheVariants.{Ended};
 
@@ -21,8 +21,7 @@ pub struct Ran {
 
 /// Runs the project. Once it has begun, no memory is taken.
 pub(crate) fn run(alloc: Global, project: &Project) -> Result<Ran, OutOfMemory>
-    requires main { str_eq_ignore_ascii_case (codes "Main") project.now.name ≡ true }
-    requires short { length project.now.traces ≤ 18723 }
+    requires { CanRun project.now }
     ensures { IfOk result (RanWhole project.now) }
 {
     let texts = project.traces.texts();

@@ -1,12 +1,13 @@
 //! Telling what became of an order: its text is put, and its status is given.
 ghost use Rattle.std.specs.Prelude.{◌≡◌, ◌+◌, ◌≤◌, ◌++◌, length, decimal, codes};
 ghost use Rattle.ci_outside.specs.Sink.{Puts};
-ghost use Rattle.ci_top.specs.Answers.{Delivers, ending_status, fault_status, fault_text, words_text};
+ghost use Rattle.ci_top.specs.Answers.{Delivers, ending_status, fault_status, fault_text, told_text, words_text};
 ghost use Rattle.ci_top.specs.Decisions.{decision_text, decision_status, IsTold};
 
 use crate::decision::{Decision, FileFault, WordsFault};
-use ci_base::{Ending, Line, put_u32};
+use ci_base::{Ending, Line, Position, put_u32};
 use ci_outside::{Failed, Sink, put_all, put_three, put_two};
+use ci_source::{Fault, fault_text as source_fault_text};
 
 /// Puts the text of the decision, and gives the exit status: that of the decision, or 5 where a put failed.
 pub(crate) fn deliver<K: Sink>(decision: &Decision, out: &mut K) -> u8
@@ -36,8 +37,8 @@ fn put_decision<K: Sink>(decision: &Decision, out: &mut K) -> Result<(), Failed>
             name.bytes(),
             b"\n",
         ),
-        Decision::SourceRefused { name } => {
-            put_two(out, name.bytes(), b":1:1: form not built\n")
+        Decision::SourceRefused { name, fault, place } => {
+            put_two(out, name.bytes(), told_at(*fault, place).bytes())
         }
         Decision::NoMemory => put_all(out, b"out of memory\n"),
         Decision::Ran(ran) => ran.history.write_report(&ran.end, out),
@@ -53,6 +54,21 @@ fn words_line(fault: WordsFault) -> Line
     line.add(b"words ");
     put_u32(index, &mut line);
     line.add(b": form not built\n");
+    line
+}
+
+/// What is told behind the name of a file: the place in its source, and the fault there.
+fn told_at(fault: Fault, place: &Position) -> Line
+    ensures { result ≡ told_text place.now fault }
+{
+    let mut line = Line::empty();
+    line.add(b":");
+    put_u32(place.line, &mut line);
+    line.add(b":");
+    put_u32(place.column, &mut line);
+    line.add(b": ");
+    line.add(source_fault_text(fault));
+    line.add(b"\n");
     line
 }
 

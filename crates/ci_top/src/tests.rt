@@ -9,6 +9,7 @@ use ci_outside::{
     MemShelf, MemSink, NamedFile, NamedFiles, NumberList, OpenGate, SureShelf, SureSink,
 };
 use std::alloc::Global;
+use std::process::Abort;
 use std::test::Fail;
 
 /// A shelf with one file, `a.ci`.
@@ -130,36 +131,153 @@ fn a_trace_and_the_end_are_run_and_reported(rt: HostRuntime) -> Result<(), Fail>
     Ok(())
 }
 
+/// Does `run a.ci` over this source, and asserts what is put and the status. Of a refusal nothing is kept.
+fn gives(
+    rt: &impl Abort,
+    alloc: Global,
+    source: &[u8],
+    put: &[u8],
+    status: u8,
+) -> Result<(), Fail> {
+    let done = order(alloc, &RUN, source, 0, 4096, 0)?;
+    assert_eq!(rt; done.put.bytes(), put);
+    assert_eq!(rt; done.outcome.status, status);
+    assert!(rt; status == 0 || is_refusal(&done.outcome));
+    Ok(())
+}
+
+/// These bytes with so many of one byte between them.
+fn filled(
+    alloc: Global,
+    before: &[u8],
+    byte: u8,
+    count: usize,
+    after: &[u8],
+) -> Result<Bytes, OutOfMemory> {
+    let mut bytes = Bytes::copy(alloc, before)?;
+    for _ in 0..count {
+        bytes.append(&[byte])?;
+    }
+    bytes.append(after)?;
+    Ok(bytes)
+}
+
 #[test]
-fn sources_are_run_or_refused(rt: HostRuntime) -> Result<(), Fail> {
-    let refused: &[u8] = b"a.ci:1:1: form not built\n";
-    let rows: [(&[u8], &[u8], u8); 8] = [
-        (
-            b"FUNCTION Main() END",
-            b"task 1 Main ended 0\nfinished entries 2 work 201\n",
-            0,
-        ),
-        (
-            b"FUNCTION Main() END\n",
-            b"task 1 Main ended 0\nfinished entries 2 work 201\n",
-            0,
-        ),
+fn sources_of_the_first_form_are_run(rt: HostRuntime) -> Result<(), Fail> {
+    let ended: &[u8] = b"task 1 Main ended 0\nfinished entries 2 work 201\n";
+    let rows: [(&[u8], &[u8]); 9] = [
+        (b"FUNCTION Main() END", ended),
+        (b"FUNCTION Main() END\n", ended),
+        (b"FUNCTION Main()  END", ended),
         (
             b"FUNCTION Main() TraceMsg(\"\"); TraceMsg(\"b\"); END",
             b"1 \n1 b\ntask 1 Main ended 0\nfinished entries 4 work 403\n",
-            0,
         ),
-        (b"FUNCTION Main()  END", refused, 1),
-        (b"FUNCTION Main() END\n\n", refused, 1),
-        (b"FUNCTION Main() TraceMsg(\"^n\"); END", refused, 1),
-        (b"function Main() END", refused, 1),
-        (b"", refused, 1),
+        (
+            b"function main() ; tracemsg(\"x\") ; end ! c",
+            b"1 x\ntask 1 main ended 0\nfinished entries 3 work 302\n",
+        ),
+        (
+            b";PUBLIC FUNCTION MAIN(\n)\tTRACEMSG ( \"x\" ) ;; End;",
+            b"1 x\ntask 1 MAIN ended 0\nfinished entries 3 work 302\n",
+        ),
+        (
+            b"FUNCTION Main() TraceMsg((\"x\")); END",
+            b"1 x\ntask 1 Main ended 0\nfinished entries 3 work 302\n",
+        ),
+        (
+            b"FUNCTION Main() TraceMsg(\"a^n^\"^0x41\"); END",
+            b"1 a\n\"A\ntask 1 Main ended 0\nfinished entries 3 work 302\n",
+        ),
+        (
+            b"\xEF\xBB\xBFFUNCTION Main() TraceMsg(\"\xFF\"); END",
+            b"1 \xFF\ntask 1 Main ended 0\nfinished entries 3 work 302\n",
+        ),
     ];
-    for (source, put, status) in rows {
-        let done = order(rt.alloc(), &RUN, source, 0, 4096, 0)?;
-        assert_eq!(rt; done.put.bytes(), put);
-        assert_eq!(rt; done.outcome.status, status);
-        assert!(rt; status == 0 || is_refusal(&done.outcome));
+    for (source, put) in rows {
+        gives(&rt, rt.alloc(), source, put, 0)?;
+    }
+    Ok(())
+}
+
+#[test]
+fn trees_of_another_form_are_refused(rt: HostRuntime) -> Result<(), Fail> {
+    let rows: [&[u8]; 15] = [
+        b"",
+        b"; ; ;",
+        b"FUNCTION Other() END",
+        b"FUNCTION Main() RETURN; END",
+        b"FUNCTION Main() INT x; END",
+        b"FUNCTION Main() END FUNCTION Other() END",
+        b"FUNCTION Main() END INT x;",
+        b"INT x; FUNCTION Main() END",
+        b"PRIVATE FUNCTION Main() END",
+        b"FUNCTION Main(INT a = 1) END",
+        b"INT FUNCTION Main() END",
+        b"FUNCTION Main() Trace(\"x\"); END",
+        b"FUNCTION Main() TraceMsg(x); END",
+        b"FUNCTION Main() TraceMsg(\"a\" + \"b\"); END",
+        b"FUNCTION Main() TraceMsg(\"a\", \"b\"); END",
+    ];
+    for source in rows {
+        gives(&rt, rt.alloc(), source, b"a.ci:1:1: form not built\n", 1)?;
+    }
+    Ok(())
+}
+
+#[test]
+fn faults_are_told_at_their_places(rt: HostRuntime) -> Result<(), Fail> {
+    let rows: [(&[u8], &[u8]); 10] = [
+        (
+            b"FUNCTION Main() TraceMsg(\"a^qb\"); END",
+            b"a.ci:1:26: bad escape\n",
+        ),
+        (
+            b"FUNCTION Main()\n TraceMsg(\"x\") END",
+            b"a.ci:2:16: unexpected token\n",
+        ),
+        (
+            b"FUNCTION Main() INT a; INT b; IF a THEN b = 1;",
+            b"a.ci:1:47: unexpected end\n",
+        ),
+        (b"FUNCTION Main()\n\n", b"a.ci:3:1: unexpected end\n"),
+        (b"FUNCTION Main() @ END", b"a.ci:1:17: stray byte\n"),
+        (
+            b"FUNCTION Main()\n\tTraceMsg(12a); END",
+            b"a.ci:2:13: stray byte\n",
+        ),
+        (
+            b"FUNCTION Main() TraceMsg(\"a); END",
+            b"a.ci:1:26: open string\n",
+        ),
+        (b"FUNCTION Main() /* END", b"a.ci:1:17: open comment\n"),
+        (
+            b"FUNCTION Main() TraceMsg(2147483649); END",
+            b"a.ci:1:26: number too large\n",
+        ),
+        (b"END @", b"a.ci:1:5: stray byte\n"),
+    ];
+    for (source, put) in rows {
+        gives(&rt, rt.alloc(), source, put, 1)?;
+    }
+    Ok(())
+}
+
+#[test]
+fn limits_of_tokens_and_levels_are_told_at_their_places(rt: HostRuntime) -> Result<(), Fail> {
+    let text: &[u8] = b"FUNCTION Main() TraceMsg(\"";
+    let call: &[u8] = b"FUNCTION Main() TraceMsg(";
+    let rows: [(&[u8], u8, usize, &[u8], &[u8]); 6] = [
+        (text, b't', 255, b"\"", b"a.ci:1:283: unexpected end\n"),
+        (text, b't', 256, b"\"", b"a.ci:1:26: text too long\n"),
+        (call, b'#', 256, b"", b"a.ci:1:26: text too long\n"),
+        (b"INT ", b'n', 65, b";", b"a.ci:1:5: name too long\n"),
+        (call, b'(', 31, b"\"x\"", b"a.ci:1:60: unexpected end\n"),
+        (call, b'(', 32, b"\"x\"", b"a.ci:1:57: nesting too deep\n"),
+    ];
+    for (before, byte, count, after, put) in rows {
+        let source = filled(rt.alloc(), before, byte, count, after)?;
+        gives(&rt, rt.alloc(), source.bytes(), put, 1)?;
     }
     Ok(())
 }

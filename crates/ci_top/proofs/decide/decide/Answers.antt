@@ -12,15 +12,15 @@ returns-in-Ok-fetch-clause-decided g c =
 
 pub returns-in-Err-Absent-clause-decided : goal.returns-in-Err-Absent-clause-decided
 returns-in-Err-Absent-clause-decided g c =
-    decided-not_fetched _ _ _ _ _ _ c.in-Ok.ensures.ok (c.in-Err-Absent.ensures.absent (ap Err c.in-Err-Absent.field-0-is))
+    rw c.not_fetched.ensures (decided-not_fetched _ _ _ _ _ _ c.in-Ok.ensures.ok (c.in-Err-Absent.ensures.absent (ap Err c.in-Err-Absent.field-0-is)))
 
 pub returns-in-Err-Failed-clause-decided : goal.returns-in-Err-Failed-clause-decided
 returns-in-Err-Failed-clause-decided g c =
-    decided-not_fetched _ _ _ _ _ _ c.in-Ok.ensures.ok (c.in-Err-Failed.ensures.failed (ap Err c.in-Err-Failed.field-0-is))
+    rw c.not_fetched-in-Err-Failed.ensures (decided-not_fetched _ _ _ _ _ _ c.in-Ok.ensures.ok (c.in-Err-Failed.ensures.failed (ap Err c.in-Err-Failed.field-0-is)))
 
 pub returns-in-Err-TooLong-clause-decided : goal.returns-in-Err-TooLong-clause-decided
 returns-in-Err-TooLong-clause-decided g c =
-    decided-not_fetched _ _ _ _ _ _ c.in-Ok.ensures.ok (c.in-Err-TooLong.ensures.too_long (ap Err c.in-Err-TooLong.field-0-is))
+    rw c.not_fetched-in-Err-TooLong.ensures (decided-not_fetched _ _ _ _ _ _ c.in-Ok.ensures.ok (c.in-Err-TooLong.ensures.too_long (ap Err c.in-Err-TooLong.field-0-is)))
 
 pub returns-in-Err-Memory-clause-decided : goal.returns-in-Err-Memory-clause-decided
 returns-in-Err-Memory-clause-decided g c = decided-no_memory _ _ _ _ _ c.in-Ok.ensures.ok

@@ -31,4 +31,4 @@ returns c =
     let kept = c.loop-text.invariant in
     rw c.from-2.ensures
     (ran-whole _ _ _ _ _ _ _ _ kept.progress c.loop-text-test.false c.end_entry.ensures (ap (λ h. h.entries) c.add-2.ensures) c.in_ok-tasks.ensures refl refl
-    (omega (arith, kept.worked, kept.before, c.requires.short, ap length c.texts-texts.ensures, c.loop-text.auto.text-index-end)))
+    (omega (arith, kept.worked, kept.before, c.requires.few, ap length c.texts-texts.ensures, c.loop-text.auto.text-index-end)))
