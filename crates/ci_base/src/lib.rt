@@ -6,6 +6,7 @@ mod bytes;
 mod entry;
 mod event;
 mod function;
+mod layout;
 mod limits;
 mod line;
 mod list;
@@ -24,6 +25,9 @@ pub use bytes::Bytes;
 pub use entry::Entry;
 pub use event::{Event, EventKind, EventReply};
 pub use function::{PrivateName, SharedName};
+pub use layout::{
+    CellHead, CellHeadList, Global, GlobalList, Head, HeadList, KindList, Layout, ValueList,
+};
 pub use limits::{Ending, Limits, Turn};
 pub use line::{Line, put_number, put_u32, put_u64};
 pub use list::{Loose, LooseList};

@@ -1,11 +1,15 @@
 -- The trees of files.
-use Rattle.std.specs.Prelude.{◌≤◌, List}
-use Rattle.ci_tree.specs.Grammar.{Tokens, derives}
+use Rattle.std.specs.Prelude.{◌≤◌, List, map}
+use Rattle.ci_tree.specs.declared.token.Token.{Token}
+use Rattle.ci_tree.specs.Grammar.{derives}
 use Rattle.ci_tree.specs.Nodes.{nodes}
+use Rattle.ci_tree.specs.Tokens.{AreKept}
 use Rattle.ci_tree.specs.Tree.{Item}
 
--- Some tokens spell the tree, so no more levels are open in it at once than there may be, and its nodes are few enough.
+-- Some tokens spell the tree, each as its kind is spelled. So no more levels are open in it at once than there may be, its
+-- names and texts are within their limits, and its nodes are few enough.
 pub record IsFileTree (tree : List Item) : Type 0 where
-  pub tokens : Tokens
-  pub derived : derives tokens tree
+  pub tokens : List Token
+  pub kept : AreKept 0 tokens
+  pub derived : derives (map (λ (t : Token). t.what) tokens) tree
   pub within : nodes tree ≤ 262144

@@ -1,10 +1,13 @@
 pub mod Bound
+pub mod BoundNodes
 pub mod Comments
+pub mod Depth
 pub mod Files
 pub mod Grammar
 pub mod Longest
 pub mod Nodes
 pub mod Operators
+pub mod Projects
 pub mod Refused
 pub mod Rooms
 pub mod Seen

@@ -22,7 +22,7 @@ use Rattle.ci_tree.specs.declared.bound.Function as code_function
 use Rattle.ci_tree.specs.declared.bound.Cell as code_cell
 use Rattle.ci_tree.specs.declared.bound.Array as code_array
 use Rattle.ci_tree.specs.declared.bound.Global as code_global
-use Rattle.ci_tree.specs.declared.bound.Project as code_project
+use Rattle.ci_tree.specs.declared.bound.ProjectParts as code_project
 use Rattle.ci_tree.specs.Bound as to
 use Rattle.ci_tree.specs.Bound.{exprs_from, links_from, block_from, clauses_from, other_from}
 
@@ -132,7 +132,7 @@ abbrev pub global_of : code_global.Global → to.Global
 global_of g = record { name = g.name; cell = g.cell }
 
 -- the project
-abbrev pub project_of : code_project.Project → to.Project
+abbrev pub project_of : code_project.ProjectParts → to.Project
 project_of p = record {
   functions = map function_of p.functions;
   cells = map cell_of p.cells;

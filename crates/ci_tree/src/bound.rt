@@ -11,16 +11,16 @@ use sqlite_items::{Boxed, Items};
 #[derive(Clone, Copy, Debug, PartialEq, Eq)]
 pub enum Scalar {
     /// The local of this number.
-    Local(u32),
+    Local(usize),
     /// The shared cell of this number.
-    Cell(u32),
+    Cell(usize),
 }
 
 /// What is called.
 #[derive(Clone, Copy, Debug, PartialEq, Eq)]
 pub enum Callee {
     /// The function of the project with this number.
-    Function(u32),
+    Function(usize),
     Private(PrivateName),
     Shared(SharedName),
 }
@@ -40,7 +40,7 @@ pub enum Expr {
     },
     /// The element of the array of this number.
     Element {
-        array: u32,
+        array: usize,
         index: Boxed<Expr>,
     },
     Called {
@@ -102,7 +102,7 @@ pub enum Stmt {
     },
     AssignElement {
         at: u32,
-        array: u32,
+        array: usize,
         index: Expr,
         value: Expr,
     },
@@ -182,9 +182,9 @@ pub struct Cell {
 /// An array: its first cell, the kind of its cells, and how many there are.
 #[derive(Clone, Copy, Debug, PartialEq, Eq)]
 pub struct Array {
-    pub first: u32,
+    pub first: usize,
     pub kind: Kind,
-    pub length: u32,
+    pub length: usize,
 }
 
 /// A GLOBAL scalar.
@@ -192,12 +192,12 @@ pub struct Array {
 pub struct Global {
     /// Its name, as it is declared.
     pub name: Bytes,
-    pub cell: u32,
+    pub cell: usize,
 }
 
-/// A bound project.
+/// All that a bound project has.
 #[derive(Debug, Drop)]
-pub struct Project {
+pub struct ProjectParts {
     pub functions: Items<Function>,
     pub cells: Items<Cell>,
     pub arrays: Items<Array>,

@@ -7,8 +7,8 @@ use crate::tree::Item;
 use sqlite_items::Items;
 use std::marker::Model;
 
-/// The items of a file, as the grammar derives them from some tokens: so at most 32 levels are open at once. It has at
-/// most 262,144 nodes. Contracts see the list of the items.
+/// The items of a file, as the grammar derives them from some tokens: so at most 32 levels are open at once, a name has at most
+/// 64 bytes and a text at most 255. It has at most 262,144 nodes. Contracts see the list of the items.
 #[derive(Debug, Drop)]
 pub struct FileTree {
     kept: Items<Item>,

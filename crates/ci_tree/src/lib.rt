@@ -3,14 +3,18 @@
 
 pub mod bound;
 mod file_tree;
+mod file_trees;
 mod making;
 mod project;
 mod token;
+mod trace_project;
 mod tree;
 
 pub use file_tree::FileTree;
-pub use project::{Project, TextList};
+pub use file_trees::FileTrees;
+pub use project::Project;
 pub use token::{Keyword, Sign, Token, TokenKind, TokenList};
+pub use trace_project::{TextList, TraceProject};
 pub use tree::{
     Clause, ClauseList, Const, Expr, ExprKind, ExprList, Item, ItemList, Label, LabelList, Length,
     Link, LinkList, LocalAt, LocalAtList, Operator, Param, ParamList, Relation, Stmt, StmtList,

@@ -1,58 +1,48 @@
-//! Projects whose names are bound: the form that can be run today.
-ghost use Rattle.std.specs.Prelude.{◌≡◌, [], ◌∷◌, ◌++◌, OnOk, OnErr};
+//! Bound projects that keep what holds of all of them.
+ghost use Rattle.std.specs.Prelude.{◌≡◌};
+ghost use Rattle.ci_tree.specs.Projects.{IsProject};
+ghost use Rattle.ci_tree.specs.SeenBound.{project_of};
 
-use ci_base::{OutOfMemory, Text};
-use std::alloc::Global;
+use crate::bound::ProjectParts;
 use std::marker::Model;
 
-/// A list of texts. Contracts see the list.
-#[derive(Debug, Drop)]
-pub struct TextList {
-    kept: Vec<Text>,
-}
-
-impl Model for TextList {
-    ghost use Rattle.std.specs.Prelude.{List, ℕ};
-
-    ghost Value = { List (List ℕ) };
-
-    ghost view = { λ list. list.kept.items };
-}
-
-impl TextList {
-    /// The empty list. Takes no memory.
-    pub fn empty(alloc: Global) -> TextList
-        ensures { result ≡ [] }
-    {
-        TextList {
-            kept: Vec::new(alloc),
-        }
-    }
-
-    /// Adds the text at the end. Where there is no memory for it, nothing changes.
-    pub fn add(&mut self, text: Text) -> Result<(), OutOfMemory>
-        ensures ok { OnOk result (self.new ≡ self.old ++ text ∷ []) }
-        ensures err { OnErr result (self.new ≡ self.old) }
-    {
-        match self.kept.push(text) {
-            Ok(()) => Ok(()),
-            Err(_) => Err(OutOfMemory),
-        }
-    }
-
-    /// The texts, in order.
-    pub fn texts(&self) -> &[Text]
-        ensures { result.now ≡ self.now }
-    {
-        self.kept.as_slice()
-    }
-}
-
-/// A project of one function, whose statements are calls of TraceMsg with a text each.
+/// A bound project whose numbers name what there is, whose kinds and numbers of arguments are right, and which keeps the
+/// limits: at most 1,000 functions of at most 16 parameters and 64 locals, 100,000 cells, 32 levels open at once, a room of
+/// 4,096, and 285,212,672 nodes. Contracts see its parts.
 #[derive(Debug, Drop)]
 pub struct Project {
-    /// The name of the function, as it is declared.
-    pub name: Text,
-    /// The texts of its calls, in order.
-    pub traces: TextList,
+    kept: ProjectParts,
+}
+
+impl Model for Project {
+    ghost use Rattle.ci_tree.specs.declared.bound.ProjectParts.{ProjectParts};
+    ghost use Rattle.ci_tree.specs.contracts.bound.ProjectParts.{the_row};
+    ghost use Rattle.ci_tree.specs.Projects.{IsProject};
+    ghost use Rattle.ci_tree.specs.SeenBound.{project_of};
+
+    ghost Value = { ProjectParts };
+
+    ghost coded = { the_row.coded };
+
+    ghost view = { λ project. project.kept };
+
+    ghost invariant = { λ project. IsProject (project_of project.kept) };
+}
+
+impl Project {
+    /// The project of these parts. Takes no memory.
+    pub fn of(parts: ProjectParts) -> Project
+        requires { IsProject (project_of parts) }
+        ensures { result ≡ parts }
+    {
+        Project { kept: parts }
+    }
+
+    /// Its functions, cells, arrays and GLOBAL scalars.
+    pub fn parts(&self) -> &ProjectParts
+        ensures value { result.now ≡ self.now }
+        ensures kept { IsProject (project_of result.now) }
+    {
+        &self.kept
+    }
 }

@@ -32,7 +32,7 @@ impl Expr {
     }
 
     /// The element of the array of this number.
-    pub fn element(array: u32, index: Boxed<Expr>) -> Expr
+    pub fn element(array: usize, index: Boxed<Expr>) -> Expr
         ensures { expr_of result ≡ tree.element array (expr_of index) }
     {
         Expr::Element { array, index }
@@ -106,7 +106,7 @@ impl Stmt {
     }
 
     /// An assignment to an element of the array of this number.
-    pub fn assign_element(at: u32, array: u32, index: Expr, value: Expr) -> Stmt
+    pub fn assign_element(at: u32, array: usize, index: Expr, value: Expr) -> Stmt
         ensures { stmt_of result ≡ tree.assign_element at array (expr_of index) (expr_of value) }
     {
         Stmt::AssignElement {
