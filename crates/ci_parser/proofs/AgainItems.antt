@@ -13,8 +13,8 @@ use Rattle.ci_tree.specs.Refused.{Refusal, begins, has_rule, rule}
 use Rattle.ci_tree.specs.Refused as ask
 use Rattle.ci_parser.specs.Reading.{◌>>=◌, const, var, type_at, parameter, parameters, function, one_item, variables, typed, seen, scoped, item, items}
 use Rattle.ci_parser.proofs.ExactItems.{var_phrase, parameter_phrase}
-use Rattle.ci_parser.proofs.Longer.{longer_var, longer_parameter, longer_definition}
-use Rattle.ci_parser.proofs.Again.{then_again, first_way, second_way}
+use Rattle.ci_expressions.proofs.Longer.{longer_var, longer_parameter, longer_definition}
+use Rattle.ci_expressions.proofs.Again.{then_again, first_way, second_way}
 use Rattle.ci_parser.proofs.AgainStatements.{MemberAgain, members_again, body_again}
 
 type_again : (t : TypeName) (i : ℕ) (k : Tokens) → type_at i (type_token t ∷ k) ≡ Ok (t, suc i, k)

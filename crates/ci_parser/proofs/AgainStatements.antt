@@ -14,10 +14,10 @@ use Rattle.ci_tree.specs.Grammar as said
 use Rattle.ci_tree.specs.Refused.{Refusal, begins, has_rule, rule}
 use Rattle.ci_tree.specs.Refused as ask
 use Rattle.ci_parser.specs.Reading.{Reader, others, members, local, label, relation_at, begins_with, Inside, else_part, cases, statement, statement_by, statements, body, expression}
-use Rattle.ci_parser.proofs.Exact.{Phrase, begins_as}
+use Rattle.ci_expressions.proofs.Exact.{Phrase, begins_as}
 use Rattle.ci_parser.proofs.ExactMembers.{local_phrase, label_phrase}
-use Rattle.ci_parser.proofs.Longer.{longer_local, longer_label, longer_others, longer_body, longer_then}
-use Rattle.ci_parser.proofs.Again.{then_again, first_way, second_way, Ends, expression_begins, level_begins, expression_again, arguments_again}
+use Rattle.ci_expressions.proofs.Longer.{longer_local, longer_label, longer_others, longer_body, longer_then}
+use Rattle.ci_expressions.proofs.Again.{then_again, first_way, second_way, Ends, expression_begins, level_begins, expression_again, arguments_again}
 
 -- What follows a list of members: no comma, and no more of the last member.
 pub record Closes (After : Tokens → Type 0) (k : Tokens) : Type 0 where

@@ -10,9 +10,9 @@ use Rattle.ci_tree.specs.declared.token.Keyword.TheVariants as words
 use Rattle.ci_tree.specs.Grammar.{Tokens, CasesTree, with_clause, stmt_then}
 use Rattle.ci_tree.specs.Refused.{Refusal, unexpected, unexpected_end, too_deep, begins, is_keyword, has_rule, taken_if}
 use Rattle.ci_tree.specs.Refused as ask
-use Rattle.ci_parser.specs.declared.fault.ParseFault.{ParseFault}
-use Rattle.ci_parser.specs.declared.fault.ParseFault.TheVariants as faults
-use Rattle.ci_parser.specs.Gives.{Fails}
+use Rattle.ci_expressions.specs.declared.fault.ParseFault.{ParseFault}
+use Rattle.ci_expressions.specs.declared.fault.ParseFault.TheVariants as faults
+use Rattle.ci_expressions.specs.Gives.{Fails}
 use Rattle.ci_parser.specs.Reading.{Found, Reader, ◌>>=◌, Inside, closed, tail, expect, statement, statements, body, expression, inside_of, begins_with, begins_clause, clause, cases, cases_end, cases_of, members, label}
 use Rattle.ci_parser.specs.Constructs.{plain_simple}
 

@@ -15,11 +15,11 @@ use Rattle.ci_tree.specs.Grammar as said
 use Rattle.ci_tree.specs.Refused.{Refusal, Symbol, Stack, rule, refused_from, from_met, by_rule, meet, push, begins, has_rule, type_of_token, typed_or, plain_item_rule, function_rule, no_rule}
 use Rattle.ci_tree.specs.Refused as ask
 use Rattle.ci_parser.specs.Reading.{Found, ◌>>=◌, const, first_value, var, parameter, parameters, function, variables, typed, seen, scoped, plain_item, item_by, item, items, members}
-use Rattle.ci_parser.proofs.Exact.{Phrase, Exact, Comes, follow, finish, follow_keyword, follow_sign, chosen, dropped, empty, began, begins_as, split, equal_began, turn}
-use Rattle.ci_parser.proofs.ExactExpressions.{AllExact, name_phrase, name_exact, number_phrase, number_exact, type_phrase, type_exact, type_token_is}
+use Rattle.ci_expressions.proofs.Exact.{Phrase, Exact, Comes, follow, finish, follow_keyword, follow_sign, chosen, dropped, empty, began, begins_as, split, equal_began, turn}
+use Rattle.ci_expressions.proofs.ExactExpressions.{AllExact, name_phrase, name_exact, number_phrase, number_exact, type_phrase, type_exact, type_token_is}
 use Rattle.ci_parser.proofs.ExactMembers.{members_phrase, members_exact}
 use Rattle.ci_parser.proofs.ExactStatements.{body_phrase, body_exact}
-use Rattle.ci_parser.proofs.Longer.{longer_var, longer_parameter, longer_definition}
+use Rattle.ci_expressions.proofs.Longer.{longer_var, longer_parameter, longer_definition}
 
 -- First values
 

@@ -10,8 +10,8 @@ use Rattle.ci_tree.specs.Grammar as said
 use Rattle.ci_tree.specs.Refused.{Symbol, Stack, rule, refused_from, push, begins, comma_rule, can_be_empty}
 use Rattle.ci_tree.specs.Refused as ask
 use Rattle.ci_parser.specs.Reading.{Reader, others, members, local, label, begins_with}
-use Rattle.ci_parser.proofs.Exact.{Phrase, Exact, follow, finish, follow_keyword, follow_sign, chosen, dropped, empty, split_one, comma_began, comma_begins, equal_began}
-use Rattle.ci_parser.proofs.ExactExpressions.{AllExact, level_phrase, name_phrase, name_exact, relation_phrase, relation_exact}
+use Rattle.ci_expressions.proofs.Exact.{Phrase, Exact, follow, finish, follow_keyword, follow_sign, chosen, dropped, empty, split_one, comma_began, comma_begins, equal_began}
+use Rattle.ci_expressions.proofs.ExactExpressions.{AllExact, level_phrase, name_phrase, name_exact, relation_phrase, relation_exact}
 
 -- { "," member }, for the symbol s
 abbrev pub others_phrase : {V : Type 0} → Phrase V → Symbol → ℕ → Phrase (List V)

@@ -12,10 +12,10 @@ use Rattle.ci_tree.specs.Grammar as said
 use Rattle.ci_tree.specs.Refused.{Symbol, Stack, too_deep, rule, refused_from, from_met, by_rule, meet, push, begins, has_rule, type_of_token, typed_or, plain_statement_rule}
 use Rattle.ci_tree.specs.Refused as ask
 use Rattle.ci_parser.specs.Reading.{Found, Reader, Inside, opened, else_part, choice, loop, count, cases, selection, tail, returned, closed, plain_statement, declared, statement_by, statement, statements, body, expression, local, label, begins_with}
-use Rattle.ci_parser.proofs.Exact.{Phrase, Exact, Comes, follow, finish, follow_keyword, follow_sign, chosen, empty, began, begins_as, split_one}
-use Rattle.ci_parser.proofs.ExactExpressions.{AllExact, level_phrase, args_phrase, args_exact, name_phrase, name_exact, type_token_is, expression_exact}
+use Rattle.ci_expressions.proofs.Exact.{Phrase, Exact, Comes, follow, finish, follow_keyword, follow_sign, chosen, empty, began, begins_as, split_one}
+use Rattle.ci_expressions.proofs.ExactExpressions.{AllExact, level_phrase, args_phrase, args_exact, name_phrase, name_exact, type_token_is, expression_exact}
 use Rattle.ci_parser.proofs.ExactMembers.{members_phrase, members_exact, local_phrase, local_exact, label_phrase, label_exact}
-use Rattle.ci_parser.proofs.Longer.{longer_local, longer_label, longer_others, longer_body, longer_then}
+use Rattle.ci_expressions.proofs.Longer.{longer_local, longer_label, longer_others, longer_body, longer_then}
 
 abbrev pub body_phrase : ℕ → Phrase to.Block
 body_phrase d = record { Said = said.Body; Is = IsBody d; spell = spell_body; after = after_body; tree = tree_body; front = λ K. (ask.body, d) ∷ K }

@@ -4,9 +4,9 @@ use Rattle.std.specs.Prelude.{Ok, Err, Result}
 use Rattle.ci_tree.specs.Tree.{Item}
 use Rattle.ci_tree.specs.Grammar.{Tokens, derives, nesting, spell_file}
 use Rattle.ci_tree.specs.Refused.{Refusal, unexpected, unexpected_end, too_deep, refused_at}
-use Rattle.ci_parser.specs.declared.fault.ParseFault.{ParseFault}
-use Rattle.ci_parser.specs.declared.fault.ParseFault.TheVariants as faults
-use Rattle.ci_parser.specs.Gives.{Fails}
+use Rattle.ci_expressions.specs.declared.fault.ParseFault.{ParseFault}
+use Rattle.ci_expressions.specs.declared.fault.ParseFault.TheVariants as faults
+use Rattle.ci_expressions.specs.Gives.{Fails}
 use Rattle.ci_parser.specs.Reading.{items}
 use Rattle.ci_parser.specs.Refusals.{IsRefusal}
 use Rattle.ci_parser.specs.OfGrammar.{TreeOrRefused, OneTree}

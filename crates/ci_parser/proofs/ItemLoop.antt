@@ -5,9 +5,9 @@ use Rattle.ci_tree.specs.Tree.{Item}
 use Rattle.ci_tree.specs.declared.token.TokenKind.{TokenKind}
 use Rattle.ci_tree.specs.Grammar.{Tokens}
 use Rattle.ci_tree.specs.Refused.{Refusal, unexpected, unexpected_end, too_deep}
-use Rattle.ci_parser.specs.declared.fault.ParseFault.{ParseFault}
-use Rattle.ci_parser.specs.declared.fault.ParseFault.TheVariants as faults
-use Rattle.ci_parser.specs.Gives.{Fails}
+use Rattle.ci_expressions.specs.declared.fault.ParseFault.{ParseFault}
+use Rattle.ci_expressions.specs.declared.fault.ParseFault.TheVariants as faults
+use Rattle.ci_expressions.specs.Gives.{Fails}
 use Rattle.ci_parser.specs.Reading.{◌>>=◌, item, items, items_with}
 
 -- one more item is refused

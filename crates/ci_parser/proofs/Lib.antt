@@ -1,14 +1,9 @@
-pub mod Exact
-pub mod Longer
-pub mod ExactExpressions
 pub mod ExactMembers
 pub mod ExactStatements
 pub mod ExactItems
-pub mod Again
 pub mod AgainStatements
 pub mod AgainItems
 pub mod ItemLoop
 pub mod FromReading
-pub mod Loops
 pub mod Nodes
 pub mod Bodies

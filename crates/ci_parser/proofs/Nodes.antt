@@ -11,7 +11,7 @@ use Rattle.ci_tree.specs.Nodes.{expr_nodes, links_nodes, exprs_nodes, local_node
 use Rattle.ci_tree.specs.Grammar as said
 use Rattle.ci_tree.specs.Grammar.{Tokens, derives, chained, begun_at, Level, single, group, Rest, no_rest, joined, formed, Unary, minus, not, number, text, parens, name, called, element, Args, no_args, args, MoreArgs, no_more_args, comma_arg, spell_level, spell_rest, spell_unary, spell_args, spell_more_args, after_level, tree_level, tree_rest, tree_unary, tree_args, tree_more_args, Label, spell_label, tree_label, after_label, Local, spell_local, tree_local, after_local, plain_local, valued_local, one, range, compared, spell_others, tree_others}
 use Rattle.ci_parser.specs.OfGrammar.{TokenForEachNode}
-use Rattle.ci_parser.proofs.Longer.{longer_first}
+use Rattle.ci_expressions.proofs.Longer.{longer_first}
 
 -- Expressions
 

@@ -1,6 +1,5 @@
+pub use Rattle.ci_expressions.specs.Gives
 pub mod Reading
 pub mod OfGrammar
-pub mod Gives
-pub mod Joints
 pub mod Refusals
 pub mod Constructs

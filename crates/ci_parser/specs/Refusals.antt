@@ -1,7 +1,7 @@
 -- What the parser's faults say.
 use Rattle.std.specs.Prelude.{◌≡◌, Some}
-use Rattle.ci_parser.specs.declared.fault.ParseFault.{ParseFault}
-use Rattle.ci_parser.specs.declared.fault.ParseFault.TheVariants as faults
+use Rattle.ci_expressions.specs.declared.fault.ParseFault.{ParseFault}
+use Rattle.ci_expressions.specs.declared.fault.ParseFault.TheVariants as faults
 use Rattle.ci_tree.specs.Grammar.{Tokens}
 use Rattle.ci_tree.specs.Refused.{refused_at, unexpected, unexpected_end, too_deep}
 

@@ -1,14 +1,15 @@
 //! The items of a file.
 ghost use Rattle.std.specs.Prelude.{◌≡◌, ◌≤◌, length};
 ghost use Rattle.ci_tree.specs.Seen.{item_of, items_of};
-ghost use Rattle.ci_parser.specs.Gives.{kinds, Gives};
+ghost use Rattle.ci_expressions.specs.Gives.{kinds, Gives};
 ghost use Rattle.ci_parser.specs.Reading as reading;
 
-use crate::begins::{begins_name, begins_type};
-use crate::cursor::{Cursor, expect_keyword, expect_sign, name_at, next, type_at, type_of};
-use crate::fault::ParseFault;
 use crate::members::{parameters, variables};
 use crate::statements::body;
+use ci_expressions::{
+    Cursor, ParseFault, begins_name, begins_type, expect_keyword, expect_sign, name_at, next,
+    type_at, type_of,
+};
 use ci_tree::{Item, Keyword, Sign, Token, TokenKind, TypeAt};
 use sqlite_items::Items;
 use std::alloc::Global;

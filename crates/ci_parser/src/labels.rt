@@ -1,14 +1,14 @@
 //! The locals of declarations and the labels of SELECT.
 ghost use Rattle.std.specs.Prelude.{◌≡◌, option_map};
 ghost use Rattle.ci_tree.specs.Seen.{expr_of, local_of, label_of};
-ghost use Rattle.ci_parser.specs.Gives.{kinds, Gives};
+ghost use Rattle.ci_expressions.specs.Gives.{kinds, Gives};
 ghost use Rattle.ci_parser.specs.Reading as reading;
 
-use crate::begins::{begins_keyword, begins_range_end, begins_sign, begins_value};
-use crate::cursor::{Cursor, expect_keyword, expect_sign, name_at, relation_at};
-use crate::expressions::expression;
-use crate::fault::ParseFault;
 use ci_base::Bytes;
+use ci_expressions::{
+    Cursor, ParseFault, begins_keyword, begins_range_end, begins_sign, begins_value,
+    expect_keyword, expect_sign, expression, name_at, relation_at,
+};
 use ci_tree::{Expr, Keyword, Label, LocalAt, Sign};
 use std::alloc::Global;
 

@@ -1,14 +1,12 @@
 //! Lists of members with commas between them: locals, labels, parameters and variables.
 ghost use Rattle.std.specs.Prelude.{◌≡◌, map};
 ghost use Rattle.ci_tree.specs.Seen.{expr_of, local_of, label_of, item_of, items_of};
-ghost use Rattle.ci_parser.specs.Gives.{kinds, Gives};
+ghost use Rattle.ci_expressions.specs.Gives.{kinds, Gives};
 ghost use Rattle.ci_parser.specs.Reading as reading;
 
-use crate::begins::begins_type;
-use crate::cursor::{Cursor, expect_sign};
-use crate::fault::ParseFault;
 use crate::labels::{label, local, other_label, other_local};
 use crate::variables::{other_parameter, other_variable, parameter, variable};
+use ci_expressions::{Cursor, ParseFault, begins_type, expect_sign};
 use ci_tree::{Item, Label, LocalAt, Param, Sign, TypeAt};
 use sqlite_items::Items;
 use std::alloc::Global;

@@ -2,11 +2,11 @@
 ghost use Rattle.std.specs.Prelude.{IfOk, IfErr};
 ghost use Rattle.ci_tree.specs.Grammar.{derives};
 ghost use Rattle.ci_tree.specs.Seen.{items_of};
-ghost use Rattle.ci_parser.specs.Gives.{kinds};
+ghost use Rattle.ci_expressions.specs.Gives.{kinds};
 ghost use Rattle.ci_parser.specs.Refusals.{IsRefusal};
 
-use crate::fault::ParseFault;
 use crate::items::items;
+use ci_expressions::ParseFault;
 use ci_tree::{FileTree, TokenList};
 use std::alloc::Global;
 

@@ -3,18 +3,17 @@
 ghost use Rattle.std.specs.Prelude.{◌≡◌, suc, ◌++◌, length, map, option_map, option_to_list};
 ghost use Rattle.ci_tree.specs.Seen.{stmt_of, block_of, clause_of, clauses_of};
 ghost use Rattle.ci_tree.specs.Tree.{other_from};
-ghost use Rattle.ci_parser.specs.Gives.{kinds, Gives};
+ghost use Rattle.ci_expressions.specs.Gives.{kinds, Gives};
 ghost use Rattle.ci_parser.specs.Reading as reading;
 ghost use Rattle.ci_parser.specs.Constructs.{construct_of, construct_at, behind_word, plain_simple, simple};
 
-use crate::begins::{begins_else, begins_expression, begins_keyword, begins_statement};
-use crate::cursor::{
-    Cursor, below, expect_keyword, expect_sign, is_keyword, name_at, next, type_of,
-};
-use crate::expressions::{arguments, expression};
-use crate::fault::ParseFault;
 use crate::members::{labels, locals};
 use ci_base::Bytes;
+use ci_expressions::{
+    Cursor, ParseFault, arguments, begins_else, begins_expression, begins_keyword,
+    begins_statement, below, expect_keyword, expect_sign, expression, is_keyword, name_at, next,
+    type_of,
+};
 use ci_tree::{Clause, Keyword, Sign, Stmt, TokenKind, TypeAt, TypeName};
 use sqlite_items::Items;
 use std::alloc::Global;

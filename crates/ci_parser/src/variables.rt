@@ -1,13 +1,13 @@
 //! First values, variables and parameters.
 ghost use Rattle.std.specs.Prelude.{◌≡◌, option_map};
 ghost use Rattle.ci_tree.specs.Seen.{item_of};
-ghost use Rattle.ci_parser.specs.Gives.{kinds, Gives};
+ghost use Rattle.ci_expressions.specs.Gives.{kinds, Gives};
 ghost use Rattle.ci_parser.specs.Reading as reading;
 
-use crate::begins::{begins_sign, begins_value};
-use crate::cursor::{Cursor, expect_sign, name_at, next, number_at, type_at};
-use crate::fault::ParseFault;
 use ci_base::Bytes;
+use ci_expressions::{
+    Cursor, ParseFault, begins_sign, begins_value, expect_sign, name_at, next, number_at, type_at,
+};
 use ci_tree::{Const, Item, Length, Param, Sign, TokenKind, TypeAt};
 use std::alloc::Global;
 

@@ -2,7 +2,7 @@ use Rattle.std.proofs.Common.{◌≡◌, ◌∙◌, ◌++◌, length, ap}
 use Rattle.std.proofs.lemmas.Result.{err_from_is_err_and}
 use Rattle.std.proofs.lemmas.List.{map-append}
 use Rattle.ci_tree.specs.Seen.{item_of, items_of}
-use Rattle.ci_parser.specs.Gives.{kinds}
+use Rattle.ci_expressions.specs.Gives.{kinds}
 use Rattle.ci_parser.proofs.ItemLoop.{items_fail, items_more}
 use Rattle.ci_parser.proofs.items.items_from.Goals as goal
 

@@ -2,9 +2,9 @@ use Rattle.std.proofs.Common.{◌≡◌, ◌∙◌, ◌++◌, ◌∷◌, [], len
 use Rattle.std.proofs.lemmas.Result.{err_from_is_err_and}
 use Rattle.std.proofs.lemmas.List.{map_push}
 use Rattle.ci_tree.specs.Seen.{label_of}
-use Rattle.ci_parser.specs.Gives.{kinds}
+use Rattle.ci_expressions.specs.Gives.{kinds}
 use Rattle.ci_parser.specs.Reading as reading
-use Rattle.ci_parser.proofs.Loops.{members_first, goes_on_with, begin, found_some, found_none, fails, round_none, length_kinds}
+use Rattle.ci_expressions.proofs.Loops.{members_first, goes_on_with, begin, found_some, found_none, fails, round_none, length_kinds}
 use Rattle.ci_parser.proofs.members.labels.Goals as goal
 
 pub loop-init : goal.loop-init

@@ -1,7 +1,7 @@
 use Rattle.std.proofs.Common.{◌≡◌, ◌∙◌, ◌++◌, ◌∷◌, [], length, ap}
-use Rattle.ci_parser.specs.Gives.{kinds}
+use Rattle.ci_expressions.specs.Gives.{kinds}
 use Rattle.ci_parser.specs.Reading as reading
-use Rattle.ci_parser.proofs.Loops.{members_first, goes_on_with, begin, found_some, found_none, round_none, length_kinds}
+use Rattle.ci_expressions.proofs.Loops.{members_first, goes_on_with, begin, found_some, found_none, round_none, length_kinds}
 use Rattle.ci_parser.proofs.members.some_parameters.Goals as goal
 
 pub loop-init : goal.loop-init

@@ -4,9 +4,9 @@ use Rattle.std.proofs.lemmas.List.{map_push}
 use Rattle.std.specs.Option.{option_to_list}
 use Rattle.ci_tree.specs.Tree.{other_from}
 use Rattle.ci_tree.specs.Seen.{stmt_of, clause_of, block_of}
-use Rattle.ci_parser.specs.Gives.{kinds}
+use Rattle.ci_expressions.specs.Gives.{kinds}
 use Rattle.ci_parser.specs.Reading as reading
-use Rattle.ci_parser.proofs.Loops.{length_kinds}
+use Rattle.ci_expressions.proofs.Loops.{length_kinds}
 use Rattle.ci_parser.proofs.Bodies.{same_ok, body_begins, body_ends, body_last, body_goes_on, cases_begin, cases_close, close_fails, clause_fails, clause_goes_on, cases_spent}
 use Rattle.ci_parser.proofs.statements.+statements.Goals as goal
 

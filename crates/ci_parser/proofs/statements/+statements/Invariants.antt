@@ -1,6 +1,6 @@
 use Rattle.std.proofs.Common.{◌≡◌, ◌+◌, ◌*◌, ◌-◌, suc, length, map}
 use Rattle.ci_tree.specs.Seen.{stmt_of, clause_of}
-use Rattle.ci_parser.specs.Gives.{kinds}
+use Rattle.ci_expressions.specs.Gives.{kinds}
 use Rattle.ci_parser.specs.Reading as reading
 use Rattle.ci_parser.proofs.Bodies.{with_before, with_clauses}
 use Rattle.ci_parser.proofs.statements.+statements.Given as goal

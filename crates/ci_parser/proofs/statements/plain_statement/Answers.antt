@@ -1,7 +1,7 @@
 use Rattle.std.proofs.Common.{◌∙◌}
-use Rattle.ci_parser.specs.Gives.{kinds}
+use Rattle.ci_expressions.specs.Gives.{kinds}
 use Rattle.ci_parser.specs.Reading as reading
-use Rattle.ci_parser.proofs.Loops.{gives_same}
+use Rattle.ci_expressions.proofs.Loops.{gives_same}
 use Rattle.ci_parser.proofs.Bodies.{plain_named}
 use Rattle.ci_parser.proofs.statements.plain_statement.Goals as goal
 

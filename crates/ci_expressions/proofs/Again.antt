@@ -2,7 +2,6 @@
 use Rattle.std.proofs.Common.{◌≡◌, ℕ, zero, suc, ◌<◌, ◌≤◌, Bool, true, false, List, [], ◌∷◌, length, Option, Some, None, refl, ap, ◌∙◌, subst, arith, inl, inr}
 use Rattle.std.specs.Prelude.{Ok, cond, eqb, Result}
 use Rattle.std.proofs.lemmas.Bool.Decides.{eqb_tells}
-use Rattle.ci_tree.specs.declared.token.TokenKind.{TokenKind}
 use Rattle.ci_tree.specs.declared.token.TokenKind.TheVariants.{Hashes, Sign}
 use Rattle.ci_tree.specs.declared.token.Sign.TheVariants as mark
 use Rattle.ci_tree.specs.declared.tree.Operator.{Operator}
@@ -12,9 +11,10 @@ use Rattle.ci_tree.specs.Grammar.{Tokens, operator_token, group_of, form_group, 
 use Rattle.ci_tree.specs.Grammar as said
 use Rattle.ci_tree.specs.Refused.{Refusal, begins, has_rule, rule, Joint, no_joint, by_operator, by_colon, joint, joint_rule}
 use Rattle.ci_tree.specs.Refused as ask
-use Rattle.ci_parser.specs.Reading.{Reader, ◌>>=◌, rest_by, rest, level_on, more_arguments, arguments, suffix, unary, expression}
-use Rattle.ci_parser.proofs.Exact.{begins_as}
-use Rattle.ci_parser.proofs.Longer.{longer_level}
+use Rattle.ci_expressions.specs.Reading.{Reader, ◌>>=◌, rest_by, rest, level_on, more_arguments, arguments, suffix, unary, expression}
+use Rattle.ci_expressions.proofs.Exact.{begins_as}
+use Rattle.ci_expressions.proofs.Longer.{longer_level}
+use Rattle.ci_expressions.proofs.Levels.{rest_none}
 
 -- one reading, and what is made of it
 pub then_again : {A B : Type 0} {r : Result A Refusal} {x : A} {y : Result B Refusal} (f : A → Result B Refusal) → r ≡ Ok x → f x ≡ y → (r >>= f) ≡ y
@@ -90,16 +90,6 @@ rest_ends : (r : said.Rest) (n d : ℕ) → IsRest n d r → (k : Tokens) → En
 rest_ends said.no_rest n d is k ends = fewer_ends n k ends
 rest_ends (said.joined op right rest) n d is k ends = subst (λ (g : ℕ). Ends g (operator_token op ∷ spell_level right (spell_rest rest k))) is.0 (operator_ends op (spell_level right (spell_rest rest k)))
 rest_ends (said.formed count rest) n d is k ends = subst (λ (g : ℕ). Ends g (Sign mark.Colon ∷ Hashes count ∷ spell_rest rest k)) is.0 (colon_ends (Hashes count ∷ spell_rest rest k))
-
-rest_by_none : (member : Reader to.Expr) (behind : Reader to.Links) (n i : ℕ) (ts : Tokens) (t : TokenKind) (j : Joint) → has_rule (joint_rule n j) ≡ false → rest_by member behind i ts t j ≡ Ok (to.no_link, i, t ∷ ts)
-rest_by_none member behind n i ts t no_joint e = refl
-rest_by_none member behind n i ts t (by_operator op) e = absurd (cc)
-rest_by_none member behind n i ts t by_colon e = absurd (cc)
-
-rest_none : (member : Reader to.Expr) (n fuel i : ℕ) (k : Tokens) → begins (ask.rest n) k ≡ false → rest member n fuel i k ≡ Ok (to.no_link, i, k)
-rest_none member n zero i k e = refl
-rest_none member n (suc fuel) i [] e = refl
-rest_none member n (suc fuel) i (t ∷ ts) e = rest_by_none member (rest member n fuel) n i ts t (joint n t) e
 
 suffix_none : (base : Option (Reader to.Expr)) (at : ℕ) (x : List ℕ) (i : ℕ) (k : Tokens) → begins ask.suffix k ≡ false → suffix base at x i k ≡ Ok (to.expr at at (to.name x), i, k)
 suffix_none base at x i (Sign mark.LeftParen ∷ ts) e = absurd (cc)

@@ -1,15 +1,43 @@
-use Rattle.std.proofs.Common.{◌≡◌, ◌∙◌, ◌++◌, ◌∷◌, [], length, map, ap, sym}
+use Rattle.std.proofs.Common.{◌≡◌, ◌∙◌, ◌++◌, ◌∷◌, [], suc, length, map, ap, sym, Ok, arith}
 use Rattle.std.proofs.lemmas.Result.{err_from_is_err_and}
 use Rattle.std.proofs.lemmas.List.{map_push}
 use Rattle.ci_tree.specs.Tree.{links_from, exprs_from}
 use Rattle.ci_tree.specs.Seen.{expr_of, link_of}
-use Rattle.ci_parser.specs.Gives.{kinds}
-use Rattle.ci_parser.specs.Reading as reading
-use Rattle.ci_parser.proofs.Loops.{unary_is, rest_is, arguments_some, members_first, goes_on_with, fails, begin, gives_value, gives_same, found_some, length_kinds}
-use Rattle.ci_parser.proofs.expressions.+expressions.Goals as goal
+use Rattle.ci_expressions.specs.Gives.{kinds}
+use Rattle.ci_expressions.specs.Reading as reading
+use Rattle.ci_expressions.proofs.Levels.{level_next, stays, fails_above, fails_next}
+use Rattle.ci_expressions.proofs.Loops.{unary_is, rest_is, arguments_some, members_first, goes_on_with, fails, begin, gives_value, gives_same, found_some, length_kinds}
+use Rattle.ci_expressions.proofs.expressions.+expressions.Goals as goal
 
 pub unary-returns : goal.unary-returns
 unary-returns t c = gives_same _ c.member.result _ _ (sym (unary_is c.args.free c.args.here.at (kinds c.args.here.left.now))) c.member.ensures
+
+pub level-returns-in_err-first : goal.level-returns-in_err-first
+level-returns-in_err-first t c =
+    let p = err_from_is_err_and c.from_residual.result c.from_residual.ensures.1 in
+    rw (p.1, p.2) (fails_above c.in_err-first.field-0.0 (reading.unary c.args.free) 0 c.args.group c.args.here.at (kinds c.args.here.left.now) (omega arith) c.in_err-first.ensures)
+
+pub level-loop-lower-init : goal.level-loop-lower-init
+level-loop-lower-init t c =
+    let first = c.in_ok-first.first in
+    let behind = c.in_ok-first.behind in
+    (c.joining-lower.ensures.most, stays (reading.unary c.args.free) 0 c.joining-lower.result c.args.here.at (kinds c.args.here.left.now) (expr_of first) behind.at (kinds behind.left.now) c.in_ok-first.ensures (omega arith) c.joining-lower.ensures.before)
+
+pub level-returns-in_err-joined : goal.level-returns-in_err-joined
+level-returns-in_err-joined t c =
+    let p = err_from_is_err_and c.from_residual-in_err-joined.result c.from_residual-in_err-joined.ensures.1 in
+    rw (p.1, p.2) (fails_next c.in_err-joined.field-0.0 (reading.unary c.args.free) c.loop-lower.lower c.args.group c.args.here.at (kinds c.args.here.left.now) (expr_of c.loop-lower.first) c.loop-lower.behind.at (kinds c.loop-lower.behind.left.now) c.loop-lower-test.true c.loop-lower.invariant.1 c.in_err-joined.ensures)
+
+pub level-loop-lower-preserved : goal.level-loop-lower-preserved
+level-loop-lower-preserved t c =
+    let joined = c.in_ok-joined.joined in
+    let after = c.in_ok-joined.after in
+    let joins = c.joining-lower-in-loop-lower in
+    let base = reading.unary c.args.free in
+    let lower = c.loop-lower.lower in
+    let next : reading.level_on base (suc lower) c.args.here.at (kinds c.args.here.left.now) ≡ Ok (expr_of joined, after.at, kinds after.left.now) =
+    level_next base lower c.args.here.at (kinds c.args.here.left.now) (expr_of c.loop-lower.first) c.loop-lower.behind.at (kinds c.loop-lower.behind.left.now) c.loop-lower.invariant.1 ∙ c.in_ok-joined.ensures in
+    (joins.ensures.most, stays base (suc lower) joins.result c.args.here.at (kinds c.args.here.left.now) (expr_of joined) after.at (kinds after.left.now) next (omega (arith, joins.ensures.least)) (λ k least less. joins.ensures.before k (omega arith) less))
 
 pub rest-returns : goal.rest-returns
 rest-returns t c =

@@ -1,11 +1,11 @@
 //! What the next token can begin.
-ghost use Rattle.std.specs.Prelude.{◌≡◌, [], ◌∷◌, false};
+ghost use Rattle.std.specs.Prelude.{◌≡◌, ℕ, ◌<◌, ◌≤◌, [], ◌∷◌, true, false};
 ghost use Rattle.ci_tree.specs.Refused as ask;
 ghost use Rattle.ci_tree.specs.Refused.{begins, has_rule, rule};
-ghost use Rattle.ci_parser.specs.Gives.{kinds};
+ghost use Rattle.ci_expressions.specs.Gives.{kinds};
 
 use crate::cursor::{Cursor, is_keyword, is_sign, next, type_of};
-use crate::operators::{Joint, joint_in};
+use crate::operators::joint_group;
 use ci_tree::{Keyword, Sign, TokenKind};
 
 /// This sign is next.
@@ -52,23 +52,20 @@ pub fn begins_expression(here: Cursor) -> bool
     }
 }
 
-/// The token joins one more member to a chain of this group.
-fn is_joint(kind: &TokenKind, group: u32) -> bool
-    ensures { result ≡ has_rule (rule (ask.rest group) kind.now) }
+/// The group in `from..to` to whose chains the next token joins one more member, or `to` where there is none.
+pub fn joining(here: Cursor, from: u32, to: u32) -> u32
+    requires { from ≤ to }
+    ensures least { from ≤ result }
+    ensures most { result ≤ to }
+    ensures before { (n : ℕ) → from ≤ n → n < result → begins (ask.rest n) (kinds here.entry.left.now) ≡ false }
+    ensures joins { result < to → begins (ask.rest result) (kinds here.entry.left.now) ≡ true }
 {
-    match joint_in(kind, group) {
-        None => false,
-        Some(Joint::Operator(_) | Joint::Colon) => true,
-    }
-}
-
-/// One more member of a chain of this group is next.
-pub fn begins_rest(here: Cursor, group: u32) -> bool
-    ensures { result ≡ begins (ask.rest group) (kinds here.entry.left.now) }
-{
-    match next(here) {
-        None => false,
-        Some((kind, _)) => is_joint(kind, group),
+    let Some((kind, _)) = next(here) else {
+        return to;
+    };
+    match joint_group(kind) {
+        Some(group) if from <= group && group < to => group,
+        _ => to,
     }
 }
 

@@ -1,7 +1,7 @@
 //! Why tokens have no tree.
 
 ghost use Rattle.std.specs.Prelude.{◌≡◌};
-ghost use Rattle.ci_parser.specs.declared.fault.ParseFault.TheVariants.{Memory};
+ghost use Rattle.ci_expressions.specs.declared.fault.ParseFault.TheVariants.{Memory};
 
 use ci_base::OutOfMemory;
 use std::alloc::{AllocError, AllocFailed};

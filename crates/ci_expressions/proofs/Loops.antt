@@ -11,13 +11,13 @@ use Rattle.ci_tree.specs.Grammar.{Tokens, chained}
 use Rattle.ci_tree.specs.Refused.{Refusal, begins, Joint, no_joint, by_operator, by_colon, joint, is_sign}
 use Rattle.ci_tree.specs.Refused as ask
 use Rattle.ci_tree.specs.declared.token.Sign.TheVariants as mark
-use Rattle.ci_parser.specs.declared.fault.ParseFault.{ParseFault}
-use Rattle.ci_parser.specs.declared.fault.ParseFault.TheVariants as faults
+use Rattle.ci_expressions.specs.declared.fault.ParseFault.{ParseFault}
+use Rattle.ci_expressions.specs.declared.fault.ParseFault.TheVariants as faults
 use Rattle.std.proofs.lemmas.List.{length-map}
 use Rattle.std.specs.Option.{option_map}
 use Rattle.ci_tree.specs.declared.token.Token.{Token}
-use Rattle.ci_parser.specs.Gives.{Gives, Fails, kinds}
-use Rattle.ci_parser.specs.Reading.{Found, Reader, ◌>>=◌, Step, gather, gathered, with_front, with_value, link_at, link_by, comma_step, rest, rest_by, others, members, arguments, more_arguments, unary, unary_on, base_of, hashes_at, expect}
+use Rattle.ci_expressions.specs.Gives.{Gives, Fails, kinds}
+use Rattle.ci_expressions.specs.Reading.{Found, Reader, ◌>>=◌, Step, gather, gathered, with_front, with_value, link_at, link_by, comma_step, rest, rest_by, others, members, arguments, more_arguments, unary, unary_on, base_of, hashes_at, expect}
 
 pub unary_is : (d i : ℕ) (ts : Tokens) → unary d i ts ≡ unary_on (base_of d) i ts
 unary_is zero i ts = refl

@@ -3,7 +3,7 @@ ghost use Rattle.std.specs.Prelude.{◌≡◌};
 ghost use Rattle.ci_tree.specs.Refused as ask;
 ghost use Rattle.ci_tree.specs.Refused.{operator_of_token};
 ghost use Rattle.ci_tree.specs.Grammar.{group_of};
-ghost use Rattle.ci_parser.specs.Joints.{joint_of};
+ghost use Rattle.ci_expressions.specs.Joints.{joint_of, joint_group};
 
 use ci_tree::{Keyword, Operator, Sign, TokenKind};
 
@@ -53,6 +53,19 @@ fn group_of(operator: Operator) -> u32
         Operator::And => 5,
         Operator::Or => 6,
         Operator::BitAnd | Operator::BitOr | Operator::BitXor => 7,
+    }
+}
+
+/// The group to whose chains the token joins one more member, if it does to any.
+pub fn joint_group(kind: &TokenKind) -> Option<u32>
+    ensures { result ≡ joint_group kind.now }
+{
+    if matches!(kind, TokenKind::Sign(Sign::Colon)) {
+        return Some(FORM_GROUP);
+    }
+    match operator_of(kind) {
+        None => None,
+        Some(operator) => Some(group_of(operator)),
     }
 }
 

@@ -11,7 +11,7 @@ use Rattle.ci_tree.specs.declared.token.Sign as of_sign
 use Rattle.ci_tree.specs.declared.token.Sign.TheVariants as mark
 use Rattle.ci_tree.specs.Grammar.{Tokens}
 use Rattle.ci_tree.specs.Refused.{unexpected, unexpected_end, Symbol, keyword, sign, Stack, Rule, no_rule, takes, opens, rule, refused_from, from_met, by_rule, taken_if, meet, push, is_keyword, is_sign, begins, has_rule, can_be_empty, followed_by, keyword_number, sign_number, all_empty, Met, left, comma_rule, equal_rule}
-use Rattle.ci_parser.specs.Reading.{Found, ◌>>=◌, expect}
+use Rattle.ci_expressions.specs.Reading.{Found, ◌>>=◌, expect}
 
 -- What a reader reads: what the grammar says of it, and the symbols that stand for it.
 pub record Phrase (V : Type 0) : Type 1 where

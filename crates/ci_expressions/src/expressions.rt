@@ -3,10 +3,10 @@ ghost use Rattle.std.specs.Prelude.{◌≡◌, ◌≤◌, List, map, length, Ok,
 ghost use Rattle.ci_tree.specs.Refused as ask;
 ghost use Rattle.ci_tree.specs.Grammar.{chained};
 ghost use Rattle.ci_tree.specs.Seen.{expr_of, link_of, exprs_of, links_of};
-ghost use Rattle.ci_parser.specs.Gives.{kinds, Gives};
-ghost use Rattle.ci_parser.specs.Reading as reading;
+ghost use Rattle.ci_expressions.specs.Gives.{kinds, Gives};
+ghost use Rattle.ci_expressions.specs.Reading as reading;
 
-use crate::begins::{begins_expression, begins_rest, begins_sign};
+use crate::begins::{begins_expression, begins_sign, joining};
 use crate::cursor::{Cursor, below, expect_sign, hashes_at, next};
 use crate::fault::ParseFault;
 use crate::operators::{Joint, joint_in};
@@ -22,21 +22,39 @@ pub fn expression(alloc: Global, free: u32, here: Cursor) -> Result<(Expr, Curso
     level(alloc, free, 8, here)
 }
 
-/// A member of a level: Unary is level 0, and a member of level n + 1 is a chain of group n.
+/// A member of a level: Unary is level 0, and a member of level n + 1 is a chain of group n. The Unary that it begins with is
+/// read once, and the chains are put round it from the tightest group on.
 #[cycle(expressions)]
 fn level(alloc: Global, free: u32, group: u32, here: Cursor) -> Result<(Expr, Cursor), ParseFault>
     requires { group ≤ 8 }
     ensures { Gives (λ x. (expr_of x.0, x.1.at, kinds x.1.left.now)) result (reading.level_on (reading.unary free) group here.entry.at (kinds here.entry.left.now)) }
 {
-    let Some(lower) = below(group) else {
-        return unary(alloc, free, here);
-    };
-    let (first, behind) = level(alloc, free, lower, here)?;
-    if !begins_rest(behind, lower) {
-        return Ok((first, behind));
+    let (mut first, mut behind) = unary(alloc, free, here)?;
+    let mut lower = joining(behind, 0, group);
+    while lower < group {
+        let (joined, after) = chain_behind(alloc, free, lower, here.at, first, behind)?;
+        first = joined;
+        behind = after;
+        lower = joining(behind, lower + 1, group);
     }
-    let (links, after) = rest(alloc, free, lower, behind)?;
-    Ok((chain(alloc, here.at, first, behind.at, links)?, after))
+    Ok((first, behind))
+}
+
+/// A chain of a group behind its first member, which starts at the token `start`, or that member alone.
+#[cycle(expressions)]
+fn chain_behind(
+    alloc: Global,
+    free: u32,
+    group: u32,
+    start: u32,
+    first: Expr,
+    behind: Cursor,
+) -> Result<(Expr, Cursor), ParseFault>
+    requires { group ≤ 7 }
+    ensures { Gives (λ x. (expr_of x.0, x.1.at, kinds x.1.left.now)) result (reading.chain_behind (reading.level_on (reading.unary free) group) group start (expr_of first) behind.entry.at (kinds behind.entry.left.now)) }
+{
+    let (links, after) = rest(alloc, free, group, behind)?;
+    Ok((chain(alloc, start, first, behind.at, links)?, after))
 }
 
 /// A chain, or its first member alone where there is no other.

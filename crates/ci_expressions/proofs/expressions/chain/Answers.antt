@@ -1,8 +1,8 @@
 use Rattle.std.proofs.Common.{ap, Ok, ◌∙◌, sym}
 use Rattle.ci_tree.specs.Tree as to
 use Rattle.ci_tree.specs.Seen.{expr_of, links_of}
-use Rattle.ci_parser.proofs.Loops.{chained_some, not_true}
-use Rattle.ci_parser.proofs.expressions.chain.Goals as goal
+use Rattle.ci_expressions.proofs.Loops.{chained_some, not_true}
+use Rattle.ci_expressions.proofs.expressions.chain.Goals as goal
 
 pub returns : goal.returns
 returns c =

@@ -17,9 +17,9 @@ use Rattle.ci_tree.specs.Grammar.{Tokens, type_token, operator_token, relation_t
 use Rattle.ci_tree.specs.Grammar as said
 use Rattle.ci_tree.specs.Refused.{Refusal, unexpected, unexpected_end, too_deep, Symbol, Stack, Rule, rule, refused_from, from_met, by_rule, meet, push, is_keyword, is_sign, begins, Joint, no_joint, by_operator, by_colon, joint, joint_rule, operator_joint, type_of_token, relation_of_token, followed_by, level_rule, typed_or, relation_rule}
 use Rattle.ci_tree.specs.Refused as ask
-use Rattle.ci_parser.specs.Reading.{Found, Reader, ◌>>=◌, name_at, number_at, hashes_at, type_at, type_by, relation_at, relation_by, rest_by, rest, level_on, more_arguments, arguments, deeper, suffix, unary_on, unary, expression}
-use Rattle.ci_parser.proofs.Exact.{Phrase, ReadAs, Exact, Comes, follow, finish, follow_sign, chosen, empty, began, begins_as, split, comma_began, comma_begins}
-use Rattle.ci_parser.proofs.Longer.{longer_level}
+use Rattle.ci_expressions.specs.Reading.{Found, Reader, ◌>>=◌, name_at, number_at, hashes_at, type_at, type_by, relation_at, relation_by, rest_by, rest, level_on, more_arguments, arguments, deeper, suffix, unary_on, unary, expression}
+use Rattle.ci_expressions.proofs.Exact.{Phrase, ReadAs, Exact, Comes, follow, finish, follow_sign, chosen, empty, began, begins_as, split, comma_began, comma_begins}
+use Rattle.ci_expressions.proofs.Longer.{longer_level}
 
 -- Single tokens
 

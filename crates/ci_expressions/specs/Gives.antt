@@ -3,8 +3,8 @@ use Rattle.std.specs.Prelude.{◌≡◌, List, map, Result, Ok, Err}
 use Rattle.ci_tree.specs.declared.token.Token.{Token}
 use Rattle.ci_tree.specs.Grammar.{Tokens}
 use Rattle.ci_tree.specs.Refused.{Refusal, unexpected, unexpected_end, too_deep}
-use Rattle.ci_parser.specs.declared.fault.ParseFault.{ParseFault}
-use Rattle.ci_parser.specs.declared.fault.ParseFault.TheVariants as faults
+use Rattle.ci_expressions.specs.declared.fault.ParseFault.{ParseFault}
+use Rattle.ci_expressions.specs.declared.fault.ParseFault.TheVariants as faults
 
 -- what the tokens are, without their places
 abbrev pub kinds : List Token → Tokens

@@ -1,45 +1,56 @@
-use Rattle.std.proofs.Common.{◌≡◌, ◌+◌, ◌*◌, ◌-◌, length, map}
+use Rattle.std.proofs.Common.{◌≡◌, ◌≤◌, ◌+◌, ◌*◌, ◌-◌, length, map}
+use Rattle.std.specs.Prelude.{Ok}
 use Rattle.ci_tree.specs.Seen.{expr_of, link_of}
-use Rattle.ci_parser.specs.Gives.{kinds}
-use Rattle.ci_parser.specs.Reading as reading
-use Rattle.ci_parser.proofs.expressions.+expressions.Given as goal
+use Rattle.ci_expressions.specs.Gives.{kinds}
+use Rattle.ci_expressions.specs.Reading as reading
+use Rattle.ci_expressions.proofs.expressions.+expressions.Given as goal
 
 -- Each call inside a level that it opens has one level fewer; at one level, from the loosest group to the name alone.
 abbrev pub decreases-arguments : goal.decreases-arguments
-decreases-arguments l = 64 * l.free + 39
+decreases-arguments l = 128 * l.free + 71
 
 abbrev pub decreases-some_arguments : goal.decreases-some_arguments
-decreases-some_arguments l = 64 * l.free + 38
+decreases-some_arguments l = 128 * l.free + 70
 
 abbrev pub decreases-argument : goal.decreases-argument
-decreases-argument l = 64 * l.free + 37
+decreases-argument l = 128 * l.free + 69
 
 abbrev pub decreases-called : goal.decreases-called
-decreases-called l = 64 * l.inside + 40
+decreases-called l = 128 * l.inside + 72
 
 abbrev pub decreases-call_at : goal.decreases-call_at
-decreases-call_at l = 64 * l.free
+decreases-call_at l = 128 * l.free
+
+abbrev pub decreases-chain_behind : goal.decreases-chain_behind
+decreases-chain_behind l = 128 * l.free + 8 * l.group + 8
 
 abbrev pub decreases-rest : goal.decreases-rest
-decreases-rest l = 64 * l.free + 4 * l.group + 7
+decreases-rest l = 128 * l.free + 8 * l.group + 7
 
 abbrev pub decreases-links : goal.decreases-links
-decreases-links l = 64 * l.free + 4 * l.group + 6
+decreases-links l = 128 * l.free + 8 * l.group + 6
 
 abbrev pub decreases-one_link : goal.decreases-one_link
-decreases-one_link l = 64 * l.free + 4 * l.group + 5
+decreases-one_link l = 128 * l.free + 8 * l.group + 5
 
 abbrev pub decreases-level : goal.decreases-level
-decreases-level l = 64 * l.free + 4 * l.group + 4
+decreases-level l = 128 * l.free + 8 * l.group + 4
 
 abbrev pub decreases-unary : goal.decreases-unary
-decreases-unary l = 64 * l.free + 3
+decreases-unary l = 128 * l.free + 3
 
 abbrev pub decreases-member : goal.decreases-member
-decreases-member l = 64 * l.free + 2
+decreases-member l = 128 * l.free + 2
 
 abbrev pub decreases-named : goal.decreases-named
-decreases-named l = 64 * l.free + 1
+decreases-named l = 128 * l.free + 1
+
+abbrev pub invariant-level-loop-lower : goal.invariant-level-loop-lower
+invariant-level-loop-lower l =
+    (l.lower ≤ l.group) × (reading.level_on (reading.unary l.free) l.lower l.here.at (kinds l.here.left.now) ≡ Ok (expr_of l.first, l.behind.at, kinds l.behind.left.now))
+
+abbrev pub decreases-level-loop-lower : goal.decreases-level-loop-lower
+decreases-level-loop-lower l = l.group - l.lower
 
 abbrev pub invariant-links-loop : goal.invariant-links-loop
 invariant-links-loop l =

@@ -2,8 +2,8 @@
 ghost use Rattle.std.specs.Prelude.{◌≡◌, ℕ, zero, suc, ◌+◌, ◌≤◌, length, [], ◌∷◌, IfOk, MatchOption};
 ghost use Rattle.ci_tree.specs.Refused as ask;
 ghost use Rattle.ci_tree.specs.Refused.{is_keyword, is_sign, begins, type_of_token, relation_of_token};
-ghost use Rattle.ci_parser.specs.Gives.{kinds, Gives};
-ghost use Rattle.ci_parser.specs.Reading as reading;
+ghost use Rattle.ci_expressions.specs.Gives.{kinds, Gives};
+ghost use Rattle.ci_expressions.specs.Reading as reading;
 
 use crate::fault::ParseFault;
 use ci_base::Bytes;

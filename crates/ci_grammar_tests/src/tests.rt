@@ -1,0 +1,6 @@
+mod asked;
+mod chains;
+mod nesting;
+mod printer;
+mod productions;
+mod refusals;
