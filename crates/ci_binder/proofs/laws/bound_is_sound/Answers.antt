@@ -1,5 +1,0 @@
-use Rattle.ci_binder.proofs.Whole as laws
-use Rattle.ci_binder.proofs.laws.bound_is_sound.Goals as goal
-
-pub returns : goal.returns
-returns c = laws.bound_is_sound

@@ -1,5 +1,0 @@
-use Rattle.ci_binder.proofs.Small as laws
-use Rattle.ci_binder.proofs.laws.rooms_are_small.Goals as goal
-
-pub returns : goal.returns
-returns c = laws.rooms_are_small

@@ -1,0 +1,19 @@
+mod Examples
+pub mod Bodies
+pub mod Counted
+pub mod Counts
+pub mod Deep
+pub mod Depths
+pub mod Derived
+pub mod FirstFound
+pub mod Free
+pub mod Leads
+pub mod Maxima
+pub mod Meant
+pub mod Nested
+pub mod Ordered
+pub mod Projects
+pub mod Small
+pub mod Tall
+pub mod Whole
+pub mod Widths
