@@ -1,0 +1,10 @@
+mod Files
+mod Finding
+mod Firsts
+mod Held
+mod Kept
+mod Lookups
+mod Named
+mod Owns
+mod Pushes
+mod Tables

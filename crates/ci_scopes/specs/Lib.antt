@@ -1,0 +1,12 @@
+pub mod File
+pub mod GivenRows
+pub mod Locals
+pub mod Names
+pub mod Project
+pub mod Rows
+pub mod Seen
+pub mod Short
+pub mod Spelling
+pub mod Stands
+pub mod Table
+pub mod Values
