@@ -1,0 +1,10 @@
+pub mod Noted
+pub mod InFront
+pub mod Loops
+pub mod QueRead
+pub mod Arguments
+pub mod Links
+pub mod Scopes
+pub mod LabelSteps
+pub mod LocalSteps
+pub mod BodySteps
