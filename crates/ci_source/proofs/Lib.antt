@@ -1,3 +1,9 @@
 pub mod Statements
-pub mod OneFault
+pub mod Items
+pub mod Options
+pub mod Offsets
+pub mod Running
+pub mod Zipped
 pub mod Sourcing
+pub mod OneFault
+pub mod OneMeaning

@@ -1,14 +1,24 @@
--- One meaning for each source.
+-- One meaning for sources.
 use Rattle.std.specs.Prelude.{◌≡◌, ℕ, List}
 use Rattle.ci_source.specs.declared.fault.Fault.{Fault}
-use Rattle.ci_source.specs.Sources.{HasFault, Means}
-use Rattle.ci_tree.specs.declared.project.Project.{Project}
+use Rattle.ci_source.specs.Compiling.{parse_to, compiles, HasFirstFault}
+use Rattle.ci_tree.specs.Bound.{Project}
+use Rattle.ci_tree.specs.Tree.{Item}
 
--- no source has two first faults
-abbrev pub HasOneFirstFault : Type 0
-HasOneFirstFault =
-    (source : List ℕ) (fault fault' : Fault) (offset offset' : ℕ) → HasFault source fault offset → HasFault source fault' offset' → (fault ≡ fault') × (offset ≡ offset')
+-- no sources have two first faults
+abbrev pub HaveOneFirstFault : Type 0
+HaveOneFirstFault =
+    (sources : List (List ℕ)) (file file' : ℕ) (fault fault' : Fault) (offset offset' : ℕ) → HasFirstFault sources file fault offset → HasFirstFault sources file' fault' offset' →
+    (file ≡ file') × (fault ≡ fault') × (offset ≡ offset')
 
--- no source has a project and a fault
+-- no sources have a project and a fault
 abbrev pub NeverBothMeanings : Type 0
-NeverBothMeanings = (source : List ℕ) (project : Project) (fault : Fault) (offset : ℕ) → Means source project → HasFault source fault offset → ⊥
+NeverBothMeanings = (sources : List (List ℕ)) (project : Project) (file : ℕ) (fault : Fault) (offset : ℕ) → compiles sources project → HasFirstFault sources file fault offset → ⊥
+
+-- no sources have two projects
+abbrev pub HaveOneProject : Type 0
+HaveOneProject = (sources : List (List ℕ)) (project project' : Project) → compiles sources project → compiles sources project' → project ≡ project'
+
+-- no sources have two lists of trees
+abbrev pub HaveOneTrees : Type 0
+HaveOneTrees = (sources : List (List ℕ)) (trees trees' : List (List Item)) → parse_to sources trees → parse_to sources trees' → trees ≡ trees'

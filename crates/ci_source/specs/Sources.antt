@@ -1,18 +1,16 @@
--- What sources mean, and why they are refused.
-use Rattle.std.specs.Prelude.{◌≡◌, ℕ, List, length, Option, None, Some, option_map, slice_get, ◌⊎◌}
+-- The tree of a source, and why it has none.
+use Rattle.std.specs.Prelude.{◌≡◌, ℕ, List, length, Option, None, Some, option_map, slice_get}
 use Rattle.ci_lexer.specs.declared.fault.LexFault.{LexFault}
 use Rattle.ci_lexer.specs.declared.fault.LexFault.TheVariants as lex_faults
 use Rattle.ci_lexer.specs.Faults.{lex_fault}
-use Rattle.ci_parser.specs.Gives.{kinds}
+use Rattle.ci_expressions.specs.Gives.{kinds}
 use Rattle.ci_source.specs.declared.fault.Fault.{Fault}
 use Rattle.ci_source.specs.declared.fault.Fault.TheVariants as faults
-use Rattle.ci_tree.specs.declared.project.Project.{Project}
 use Rattle.ci_tree.specs.declared.token.Token.{Token}
 use Rattle.ci_tree.specs.Grammar.{derives}
 use Rattle.ci_tree.specs.Refused.{Refusal, unexpected, unexpected_end, too_deep, refused_at}
 use Rattle.ci_tree.specs.Tokens.{tokens}
 use Rattle.ci_tree.specs.Tree.{Item}
-use Rattle.ci_source.specs.FirstForm.{first_form}
 
 -- the tree that the tokens of the source spell
 pub record Parses (source : List ℕ) (tree : List Item) : Type 0 where
@@ -50,20 +48,3 @@ pub record HasGrammarFault (source : List ℕ) (fault : Fault) (offset : ℕ) : 
   pub refused : Refusal
   pub holds : refused_at (kinds ts) ≡ Some refused
   pub told : grammar_fault source ts refused ≡ Some (fault, offset)
-
--- its tree can't be run yet, which is told at its start
-pub record IsNotBuilt (source : List ℕ) (fault : Fault) (offset : ℕ) : Type 0 where
-  pub tree : List Item
-  pub parsed : Parses source tree
-  pub form : first_form tree ≡ None
-  pub told : (fault ≡ faults.NotBuilt) × (offset ≡ 0)
-
--- the first fault of a source, and the offset at which it is told
-abbrev pub HasFault : List ℕ → Fault → ℕ → Type 0
-HasFault source fault offset = HasLexicalFault source fault offset ⊎ (HasGrammarFault source fault offset ⊎ IsNotBuilt source fault offset)
-
--- the project of a source
-pub record Means (source : List ℕ) (project : Project) : Type 0 where
-  pub tree : List Item
-  pub parsed : Parses source tree
-  pub form : first_form tree ≡ Some project

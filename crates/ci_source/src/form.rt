@@ -1,36 +1,56 @@
-//! The trees that can be run today: one function Main, whose statements trace texts.
-ghost use Rattle.std.specs.Prelude.{◌≡◌, Some, None, IfOk, IsErrOf, codes};
+//! The trees that can be run today: one function Main in all files, whose statements trace texts.
+ghost use Rattle.std.specs.Prelude.{◌≡◌, Some, None, IfOk, IfSome, IsNone, IsErrOf, codes, map};
 ghost use Rattle.std.specs.Str.{str_eq_ignore_ascii_case};
 ghost use Rattle.ci_tree.specs.Seen.{expr_of, exprs_of, stmt_of, block_of, item_of, items_of};
-ghost use Rattle.ci_source.specs.FirstForm.{first_form as form_of, item_project, project_of, traced_text as text_of_statement, traced_texts, called_text, name_as_main, lone_text as text_of_arguments, expr_text};
+ghost use Rattle.ci_source.specs.Telling.{CanRun};
+ghost use Rattle.ci_source.specs.FirstForm.{files_form, IsLoneItem, item_project, project_of, traced_text as text_of_statement, traced_texts, called_text, name_as_main, lone_text as text_of_arguments, expr_text};
 
 use ci_base::{Bytes, Text};
-use ci_tree::{Expr, ExprKind, Item, Project, Stmt, TextList};
+use ci_tree::{Expr, ExprKind, FileTree, FileTrees, Item, Stmt, TextList, TraceProject};
 use std::alloc::Global;
 
-/// Why a tree gives no project.
+/// Why trees give no project that can be run today.
 #[derive(Clone, Copy, Debug, PartialEq, Eq)]
 pub enum FormFault {
-    /// The tree isn't of the first form.
+    /// The trees aren't of the first form.
     NotBuilt,
     /// There was no memory for the project.
     Memory,
 }
 
-/// The project of a tree of the first form.
-pub fn first_form(alloc: Global, tree: &[Item]) -> Result<Project, FormFault>
-    ensures ok { IfOk result (λ project. form_of (items_of tree.now) ≡ Some project) }
-    ensures refused { IsErrOf result FormFault.NotBuilt → form_of (items_of tree.now) ≡ None }
+/// The project of files whose items together are of the first form.
+pub fn first_form(alloc: Global, trees: &FileTrees) -> Result<TraceProject, FormFault>
+    ensures ok { IfOk result (λ project. files_form (map items_of trees.now) ≡ Some project) }
+    ensures can_run { IfOk result (λ project. CanRun project) }
+    ensures refused { IsErrOf result FormFault.NotBuilt → files_form (map items_of trees.now) ≡ None }
 {
-    match tree {
-        [] => Err(FormFault::NotBuilt),
-        [item] => read_item(alloc, item),
-        [_, _, ..] => Err(FormFault::NotBuilt),
+    match lone_item(trees.trees()) {
+        Some(item) => read_item(alloc, item),
+        None => Err(FormFault::NotBuilt),
     }
 }
 
+/// The only item of all files, where there is exactly one.
+fn lone_item(trees: &[FileTree]) -> Option<&Item>
+    ensures some { IfSome result (λ item. IsLoneItem (map items_of trees.now) (item_of item.now)) }
+    ensures none { IsNone result → files_form (map items_of trees.now) ≡ None }
+{
+    let mut found = None;
+    for tree in trees {
+        match tree.items() {
+            [] => {}
+            [item] => match found {
+                None => found = Some(item),
+                Some(_) => return None,
+            },
+            [_, _, ..] => return None,
+        }
+    }
+    found
+}
+
 /// The project of a PUBLIC function without a type and without parameters.
-fn read_item(alloc: Global, item: &Item) -> Result<Project, FormFault>
+fn read_item(alloc: Global, item: &Item) -> Result<TraceProject, FormFault>
     ensures ok { IfOk result (λ project. item_project (item_of item.now) ≡ Some project) }
     ensures refused { IsErrOf result FormFault.NotBuilt → item_project (item_of item.now) ≡ None }
 {
@@ -48,7 +68,7 @@ fn read_item(alloc: Global, item: &Item) -> Result<Project, FormFault>
 }
 
 /// The project of a function of this name with these statements.
-fn read_function(alloc: Global, name: &Bytes, body: &[Stmt]) -> Result<Project, FormFault>
+fn read_function(alloc: Global, name: &Bytes, body: &[Stmt]) -> Result<TraceProject, FormFault>
     ensures ok { IfOk result (λ project. project_of name.now (traced_texts (block_of body.now)) ≡ Some project) }
     ensures refused { IsErrOf result FormFault.NotBuilt → project_of name.now (traced_texts (block_of body.now)) ≡ None }
 {
@@ -64,7 +84,7 @@ fn read_function(alloc: Global, name: &Bytes, body: &[Stmt]) -> Result<Project, 
             return Err(FormFault::Memory);
         };
     }
-    Ok(Project { name, traces })
+    Ok(TraceProject { name, traces })
 }
 
 /// The name, where it is Main in any letter case.

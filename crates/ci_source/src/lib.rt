@@ -1,6 +1,8 @@
-//! What a source means, and why it is refused: its tokens, its tree, its first fault, and the form that can be run today.
+//! What sources mean, and why they are refused: their tokens, their trees, their project or first fault, and the form that can
+//! be run today.
 #![tactic(auto)]
 
+mod compiled;
 mod fault;
 mod form;
 mod laws;
@@ -9,8 +11,9 @@ mod telling;
 #[cfg(test)]
 mod tests;
 
+pub use compiled::Compiled;
 pub use fault::{Fault, fault_text};
 pub use form::{FormFault, first_form};
 pub use laws::one_meaning;
-pub use reading::read_source;
-pub use telling::{SourceFault, grammar_fault, lexical_fault};
+pub use reading::read_sources;
+pub use telling::SourceFault;

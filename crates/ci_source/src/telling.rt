@@ -1,57 +1,106 @@
-//! What is told of a refused source: its fault, and the offset at which it is told.
-ghost use Rattle.std.specs.Prelude.{◌≡◌, ◌≤◌, length};
-ghost use Rattle.ci_source.specs.Telling.{LexTold, ParseTold, NamesToken};
+//! What is told of refused sources: the fault, the number of its file, and the offset at which it is told.
+ghost use Rattle.std.specs.Prelude.{◌≡◌, ◌≤◌, All, length};
+ghost use Rattle.ci_source.specs.Compiling.{token_offset as offset_of_token};
+ghost use Rattle.ci_source.specs.Telling.{LexTold, ParseTold, BindTold, NamesToken, NamesFile};
 
-use crate::fault::Fault;
+use crate::fault::{Fault, name_fault};
+use ci_base::Bytes;
 use ci_lexer::LexFault;
+use ci_names::BindFault;
 use ci_parser::ParseFault;
-use ci_tree::Token;
+use ci_tree::{Token, TokenList};
 
-/// Why a source gives no project.
+/// Why sources give no project.
 #[derive(Clone, Copy, Debug, PartialEq, Eq)]
 pub enum SourceFault {
-    /// Its first fault, and the offset at which it is told.
-    Refused { fault: Fault, offset: u32 },
-    /// There was no memory for its tokens, its tree or its project.
+    /// Their first fault: the number of its file, counted from 0, and the offset in it at which the fault is told.
+    Refused {
+        file: u32,
+        fault: Fault,
+        offset: u32,
+    },
+    /// There was no memory for their tokens, their trees or their project.
     Memory,
 }
 
-/// What is told of a lexical fault.
-pub fn lexical_fault(fault: LexFault) -> SourceFault
-    ensures { LexTold fault result }
+/// What is told of a lexical fault of the file.
+pub(crate) fn lexical_fault(file: u32, fault: LexFault) -> SourceFault
+    ensures { LexTold file fault result }
 {
     match fault {
-        LexFault::StrayByte { at } => refused(Fault::StrayByte, at),
-        LexFault::OpenString { at } => refused(Fault::OpenString, at),
-        LexFault::OpenComment { at } => refused(Fault::OpenComment, at),
-        LexFault::BadEscape { at } => refused(Fault::BadEscape, at),
-        LexFault::NumberTooLarge { at } => refused(Fault::NumberTooLarge, at),
-        LexFault::TextTooLong { at } => refused(Fault::TextTooLong, at),
-        LexFault::NameTooLong { at } => refused(Fault::NameTooLong, at),
+        LexFault::StrayByte { at } => refused(file, Fault::StrayByte, at),
+        LexFault::OpenString { at } => refused(file, Fault::OpenString, at),
+        LexFault::OpenComment { at } => refused(file, Fault::OpenComment, at),
+        LexFault::BadEscape { at } => refused(file, Fault::BadEscape, at),
+        LexFault::NumberTooLarge { at } => refused(file, Fault::NumberTooLarge, at),
+        LexFault::TextTooLong { at } => refused(file, Fault::TextTooLong, at),
+        LexFault::NameTooLong { at } => refused(file, Fault::NameTooLong, at),
         LexFault::Memory => SourceFault::Memory,
     }
 }
 
-/// What is told of a refused token of the source.
-pub fn grammar_fault(source: &[u8], tokens: &[Token], fault: &ParseFault) -> SourceFault
+/// What is told of a refused token of the file.
+pub(crate) fn grammar_fault(
+    file: u32,
+    source: &[u8],
+    tokens: &[Token],
+    fault: &ParseFault,
+) -> SourceFault
     requires within { length source.now ≤ 262144 }
     requires named { NamesToken fault.now tokens.now }
-    ensures { ParseTold source.now tokens.now fault.now result }
+    ensures { ParseTold file source.now tokens.now fault.now result }
 {
     match fault {
         ParseFault::Unexpected { at } => refused(
+            file,
             Fault::UnexpectedToken,
             tokens[*at as usize].place,
         ),
-        ParseFault::UnexpectedEnd => refused(Fault::UnexpectedEnd, source.len() as u32),
-        ParseFault::TooDeep { at } => refused(Fault::NestingTooDeep, tokens[*at as usize].place),
+        ParseFault::UnexpectedEnd => refused(file, Fault::UnexpectedEnd, source.len() as u32),
+        ParseFault::TooDeep { at } => refused(
+            file,
+            Fault::NestingTooDeep,
+            tokens[*at as usize].place,
+        ),
         ParseFault::Memory => SourceFault::Memory,
     }
 }
 
-/// The source is refused with this fault, told at this offset.
-fn refused(fault: Fault, offset: u32) -> SourceFault
-    ensures { result ≡ SourceFault.Refused fault offset }
+/// What is told of a fault of the names and kinds of the files with these tokens.
+pub(crate) fn bind_fault(sources: &[Bytes], lists: &[TokenList], fault: BindFault) -> SourceFault
+    requires within { All (λ source. length source ≤ 262144) sources.now }
+    requires in_sources { NamesFile fault (length sources.now) }
+    requires in_lists { NamesFile fault (length lists.now) }
+    ensures { BindTold sources.now lists.now fault result }
 {
-    SourceFault::Refused { fault, offset }
+    match fault {
+        BindFault::Fault { file, token, kind } => {
+            let source = sources[file as usize].bytes();
+            let tokens = lists[file as usize].tokens();
+            refused(file, name_fault(kind), token_offset(source, tokens, token))
+        }
+        BindFault::Memory => SourceFault::Memory,
+    }
+}
+
+/// Where the token of this index stands in the source; its end, where there is none.
+fn token_offset(source: &[u8], tokens: &[Token], index: u32) -> u32
+    requires { length source.now ≤ 262144 }
+    ensures { result ≡ offset_of_token source.now tokens.now index }
+{
+    match tokens.get(index as usize) {
+        Some(token) => token.place,
+        None => source.len() as u32,
+    }
+}
+
+/// The file is refused with this fault, told at this offset.
+fn refused(file: u32, fault: Fault, offset: u32) -> SourceFault
+    ensures { result ≡ SourceFault.Refused file fault offset }
+{
+    SourceFault::Refused {
+        file,
+        fault,
+        offset,
+    }
 }

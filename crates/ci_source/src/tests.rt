@@ -1,113 +1,134 @@
-mod asked;
-mod chains;
-mod nesting;
+mod bound;
+mod files;
+mod names;
 mod places;
-mod printer;
-mod productions;
-mod refusals;
 
+use crate::telling::{bind_fault, grammar_fault, lexical_fault};
 use crate::*;
-use ci_base::{Bytes, OutOfMemory};
-use ci_lexer::LexFault;
-use ci_parser::ParseFault;
-use ci_tree::{Expr, Item, Stmt, Token, TokenKind};
-use sqlite_items::Items;
+use ci_base::{Bytes, Text};
+use ci_lexer::{LexFault, lex};
+use ci_names::{BindFault, BindKind, Limit};
+use ci_parser::{ParseFault, parse};
+use ci_tree::{FileTrees, Token, TokenKind};
 use std::alloc::Global;
+use std::process::Abort;
 use std::test::Fail;
 
-/// A list of one thing.
-fn one<T: Drop>(alloc: Global, item: T) -> Result<Items<T>, OutOfMemory> {
-    let mut items = Items::new(alloc);
-    match items.push(item) {
-        Ok(()) => Ok(items),
-        Err(_) => Err(OutOfMemory),
+/// The trees of sources.
+fn trees_of(rt: &impl Abort, alloc: Global, sources: &[&str]) -> Result<FileTrees, Fail> {
+    let mut trees = FileTrees::empty(alloc);
+    for source in sources {
+        assert!(rt; source.len() <= 262144 && trees.trees().len() < 64);
+        let tokens = lex(alloc, source.as_bytes())?;
+        trees.add(parse(alloc, &tokens)?)?;
+    }
+    Ok(trees)
+}
+
+/// The name and the number of texts of the project that the sources' trees are of the first form for, if they are.
+fn form_of(
+    rt: &impl Abort,
+    alloc: Global,
+    sources: &[&str],
+) -> Result<Option<(Text, usize)>, Fail> {
+    let trees = trees_of(rt, alloc, sources)?;
+    match first_form(alloc, &trees) {
+        Ok(project) => Ok(Some((project.name.copy(), project.traces.texts().len()))),
+        Err(FormFault::NotBuilt) => Ok(None),
+        Err(FormFault::Memory) => Err(Fail::from("memory for a project")),
     }
 }
 
-/// The tree of `FUNCTION NAME() TraceMsg("hi"); END`.
-fn one_trace(alloc: Global, name: &[u8]) -> Result<Items<Item>, OutOfMemory> {
-    let text = Expr::literal(6, Bytes::copy(alloc, b"hi")?);
-    let call = Stmt::call(4, Bytes::copy(alloc, b"tracemsg")?, one(alloc, text)?);
-    let function = Item::Function {
-        at: 1,
-        name: Bytes::copy(alloc, name)?,
-        private: false,
-        gives: None,
-        params: Items::new(alloc),
-        body: one(alloc, call)?,
-    };
-    one(alloc, function)
-}
-
 #[test]
-fn a_function_main_that_traces_is_of_the_first_form(rt: HostRuntime) -> Result<(), Fail> {
-    let tree = one_trace(rt.alloc(), b"main")?;
-    let Ok(project) = first_form(rt.alloc(), tree.as_slice()) else {
-        return Err(Fail::from("a project"));
-    };
-    assert_eq!(rt; project.name.bytes(), b"main".as_slice());
-    assert_eq!(rt; project.traces.texts().len(), 1);
-    let other = one_trace(rt.alloc(), b"Other")?;
-    let refused = first_form(rt.alloc(), other.as_slice());
-    assert!(rt; matches!(&refused, Err(FormFault::NotBuilt)));
-    let empty: Items<Item> = Items::new(rt.alloc());
-    let nothing = first_form(rt.alloc(), empty.as_slice());
-    assert!(rt; matches!(&nothing, Err(FormFault::NotBuilt)));
+fn one_function_main_that_traces_is_of_the_first_form(rt: HostRuntime) -> Result<(), Fail> {
+    let alloc = rt.alloc();
+    let main = "function main() tracemsg(\"hi\") ; TraceMsg(\"\"); end";
+    let forms: [&[&str]; 4] = [
+        &[main],
+        &["", main],
+        &[main, ";", "! c"],
+        &["", "", main, ""],
+    ];
+    for sources in forms {
+        let Some((name, count)) = form_of(&rt, alloc, sources)? else {
+            return Err(Fail::from("a project"));
+        };
+        assert_eq!(rt; name.bytes(), b"main".as_slice());
+        assert_eq!(rt; count, 2);
+    }
+    let others: [&[&str]; 12] = [
+        &[],
+        &[""],
+        &["", ";"],
+        &["FUNCTION Other() TraceMsg(\"hi\"); END"],
+        &["PRIVATE FUNCTION Main() TraceMsg(\"hi\"); END"],
+        &["INT FUNCTION Main() TraceMsg(\"hi\"); END"],
+        &["FUNCTION Main(INT a) TraceMsg(\"hi\"); END"],
+        &["FUNCTION Main() RETURN; END"],
+        &["FUNCTION Main() TraceMsg(\"hi\", \"ho\"); END"],
+        &[main, "FUNCTION F() END"],
+        &["INT a;", main],
+        &[main, main],
+    ];
+    for sources in others {
+        assert!(rt; form_of(&rt, alloc, sources)?.is_none(), "{sources:?}");
+    }
     Ok(())
 }
 
+/// A fault of the second file.
+fn of_second(fault: Fault, offset: u32) -> SourceFault {
+    SourceFault::Refused {
+        file: 1,
+        fault,
+        offset,
+    }
+}
+
 #[test]
-fn faults_are_told_at_their_offsets(rt: HostRuntime) {
-    let lexical = lexical_fault(LexFault::BadEscape { at: 25 });
-    let escape = SourceFault::Refused {
-        fault: Fault::BadEscape,
-        offset: 25,
-    };
-    assert_eq!(rt; lexical, escape);
-    assert_eq!(rt; lexical_fault(LexFault::Memory), SourceFault::Memory);
+fn faults_are_told_at_their_offsets(rt: HostRuntime) -> Result<(), Fail> {
+    let lexical = lexical_fault(1, LexFault::BadEscape { at: 25 });
+    assert_eq!(rt; lexical, of_second(Fault::BadEscape, 25));
+    assert_eq!(rt; lexical_fault(1, LexFault::Memory), SourceFault::Memory);
     let tokens = [Token {
         what: TokenKind::Number(1),
         place: 3,
     }];
-    let refused = grammar_fault(b"   1", &tokens, &ParseFault::Unexpected { at: 0 });
-    let token = SourceFault::Refused {
-        fault: Fault::UnexpectedToken,
-        offset: 3,
-    };
-    assert_eq!(rt; refused, token);
-    let end = grammar_fault(b"   1", &tokens, &ParseFault::UnexpectedEnd);
-    let at_end = SourceFault::Refused {
-        fault: Fault::UnexpectedEnd,
-        offset: 4,
-    };
-    assert_eq!(rt; end, at_end);
-    assert_eq!(rt;
-        fault_text(Fault::NestingTooDeep),
-        b"nesting too deep".as_slice()
-    );
+    let refused = grammar_fault(1, b"   1", &tokens, &ParseFault::Unexpected { at: 0 });
+    assert_eq!(rt; refused, of_second(Fault::UnexpectedToken, 3));
+    let end = grammar_fault(1, b"   1", &tokens, &ParseFault::UnexpectedEnd);
+    assert_eq!(rt; end, of_second(Fault::UnexpectedEnd, 4));
+    let memory = grammar_fault(1, b"   1", &tokens, &ParseFault::Memory);
+    assert_eq!(rt; memory, SourceFault::Memory);
     one_meaning();
+    Ok(())
 }
 
 #[test]
-fn a_source_gives_its_project_or_its_first_fault(rt: HostRuntime) -> Result<(), Fail> {
-    let source = b"function main() tracemsg(\"hi\") ; end";
-    let Ok(project) = read_source(rt.alloc(), source) else {
-        return Err(Fail::from("a project"));
-    };
-    assert_eq!(rt; project.name.bytes(), b"main".as_slice());
-    assert_eq!(rt; project.traces.texts().len(), 1);
-    let rows: [(&[u8], Fault, u32); 4] = [
-        (b"END @", Fault::StrayByte, 4),
-        (b"FUNCTION Main() END END", Fault::UnexpectedToken, 20),
-        (b"FUNCTION Main()", Fault::UnexpectedEnd, 15),
-        (b" FUNCTION Main() RETURN; END", Fault::NotBuilt, 0),
+fn faults_of_names_are_told_at_tokens_of_their_files(rt: HostRuntime) -> Result<(), Fail> {
+    let alloc = rt.alloc();
+    let sources = [
+        Bytes::copy(alloc, b"INT a;")?,
+        Bytes::copy(alloc, b"\n INT b ;")?,
     ];
-    for (source, fault, offset) in rows {
-        assert!(rt; source.len() <= 262_144);
-        let Err(refusal) = read_source(rt.alloc(), source) else {
-            return Err(Fail::from("a fault"));
+    let lists = [lex(alloc, b"INT a;")?, lex(alloc, b"\n INT b ;")?];
+    let rows = [
+        (0, BindKind::Limit(Limit::Cells), Fault::LimitCells, 2),
+        (1, BindKind::DeclaredTwice, Fault::DeclaredTwice, 6),
+        (2, BindKind::IndexOnScalar, Fault::IndexOnScalar, 8),
+        (3, BindKind::NameUnknown, Fault::NameUnknown, 9),
+    ];
+    assert!(rt; sources[1].bytes().len() == 9);
+    for (token, kind, fault, offset) in rows {
+        let found = BindFault::Fault {
+            file: 1,
+            token,
+            kind,
         };
-        assert_eq!(rt; refusal, SourceFault::Refused { fault, offset });
+        let told = bind_fault(&sources, &lists, found);
+        assert_eq!(rt; told, of_second(fault, offset));
     }
+    let memory = bind_fault(&sources, &lists, BindFault::Memory);
+    assert_eq!(rt; memory, SourceFault::Memory);
     Ok(())
 }

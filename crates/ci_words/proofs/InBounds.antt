@@ -129,8 +129,15 @@ order_within command words free =
       slice = option_within command words names.Slice (record { low = 1; high = 1000000 }) 1000 free refl (omega arith) (omega arith);
       budget = option_within command words names.Budget (record { low = 200; high = 100000000 }) 10000000 free refl (omega arith) (omega arith);
       workers = workers.1;
+      slice_at = place_within command words (roles.Value names.Slice) (length words);
+      budget_at = place_within command words (roles.Value names.Budget) (length words);
       workers_at = place_within command words (roles.Value names.Workers) (length words);
+      some_workers_at = some_value words (value_place command words names.Workers);
     } where
+      some_value : (words : List (List ℕ)) (place : Option ℕ) → 0 < number_at words place 0 → IsSome place
+      some_value words None some = absurd (omega arith)
+      some_value words (Some at) some = refl
+
       by_replay : command ≡ commands.Replay → IsSome (value_place command words names.From)
       by_replay same =
           let P : Command → Type 0 = λ c. IsFree c words → IsSome (value_place c words names.From) in

@@ -15,4 +15,7 @@ pub record IsInBounds (words : List (List ℕ)) (order : Order) : Type 0 where
   pub slice : (1 ≤ order.limits.slice) × (order.limits.slice ≤ 1000000)
   pub budget : (200 ≤ order.limits.budget) × (order.limits.budget ≤ 100000000)
   pub workers : order.limits.workers ≤ 16
+  pub slice_at : IfSome order.slice_at (λ at. at < length words)
+  pub budget_at : IfSome order.budget_at (λ at. at < length words)
   pub workers_at : IfSome order.workers_at (λ at. at < length words)
+  pub some_workers_at : 0 < order.limits.workers → IsSome order.workers_at

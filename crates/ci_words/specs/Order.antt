@@ -48,6 +48,8 @@ order_of command words = record {
   journal = value_place command words names.From;
   number = size_of command words;
   limits = limits_of command words;
+  slice_at = value_place command words names.Slice;
+  budget_at = value_place command words names.Budget;
   workers_at = value_place command words names.Workers;
   as_journal = is_some (place_before command words (roles.Known names.Journal) (length words));
 }

@@ -77,7 +77,8 @@ impl Fault {
 
 /// The words that say what a fault of this number is, which is from 1 to 10; no words for another number.
 pub fn fault_text(number: u8) -> &'static str
-    ensures { result.now ≡ text_of number }
+    ensures value { result.now ≡ text_of number }
+    ensures short { length result.now ≤ 15 }
 {
     match number {
         1 => "no command",

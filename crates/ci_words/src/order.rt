@@ -75,6 +75,10 @@ pub struct Order {
     pub number: u32,
     /// The limits of the run: the slice is 1,000, the budget 10,000,000 and the workers are 0 where they aren't given.
     pub limits: Limits,
+    /// The index of the number of ticks of a turn, where it is given.
+    pub slice_at: Option<u32>,
+    /// The index of the work that the run may take, where it is given.
+    pub budget_at: Option<u32>,
     /// The index of the number of workers, where it is given.
     pub workers_at: Option<u32>,
     /// Whether a journal is to be written in place of the report.
@@ -94,6 +98,8 @@ pub(crate) fn order_of(command: Command, words: &[Bytes]) -> Order
         journal: value_place(command, words, OptionName::From),
         number: size_of(command, words),
         limits: limits_of(command, words),
+        slice_at: value_place(command, words, OptionName::Slice),
+        budget_at: value_place(command, words, OptionName::Budget),
         workers_at: value_place(command, words, OptionName::Workers),
         as_journal: place_of(command, words, Role::Known(OptionName::Journal)).is_some(),
     }

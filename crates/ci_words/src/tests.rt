@@ -40,13 +40,15 @@ fn order_text(alloc: Global, order: &Order) -> Result<String, AllocError> {
     let limits = order.limits;
     let script = place(alloc, order.script)?;
     let journal = place(alloc, order.journal)?;
+    let slice_at = place(alloc, order.slice_at)?;
+    let budget_at = place(alloc, order.budget_at)?;
     let workers_at = place(alloc, order.workers_at)?;
     let mut text = format!(in alloc;
         "{:?} {} {} {}",
         order.command, limits.slice, limits.budget, limits.workers
     )?;
     text.push_str(format!(in alloc;
-        " script {script} from {journal} workers {workers_at}"
+        " script {script} from {journal} slice {slice_at} budget {budget_at} workers {workers_at}"
     )?.as_str())?;
     text.push_str(format!(in alloc;
         " number {} {} files",
@@ -176,67 +178,67 @@ static FAULTS: [(&str, &str); 94] = [
 static ORDERS: [(&str, &str); 16] = [
     (
         "run a",
-        "Run 1000 10000000 0 script - from - workers - number 0 false files 1",
+        "Run 1000 10000000 0 script - from - slice - budget - workers - number 0 false files 1",
     ),
     (
         "run a b c",
-        "Run 1000 10000000 0 script - from - workers - number 0 false files 1 2 3",
+        "Run 1000 10000000 0 script - from - slice - budget - workers - number 0 false files 1 2 3",
     ),
     (
         "run make - check",
-        "Run 1000 10000000 0 script - from - workers - number 0 false files 1 2 3",
+        "Run 1000 10000000 0 script - from - slice - budget - workers - number 0 false files 1 2 3",
     ),
     (
         "run  a",
-        "Run 1000 10000000 0 script - from - workers - number 0 false files 1 2",
+        "Run 1000 10000000 0 script - from - slice - budget - workers - number 0 false files 1 2",
     ),
     (
         "run --slice 1 a --budget 200 b --workers 0 --script s --journal c",
-        "Run 1 200 0 script 10 from - workers 8 number 0 true files 3 6 12",
+        "Run 1 200 0 script 10 from - slice 2 budget 5 workers 8 number 0 true files 3 6 12",
     ),
     (
         "run a --slice 1000000 --budget 100000000 --workers 16",
-        "Run 1000000 100000000 16 script - from - workers 7 number 0 false files 1",
+        "Run 1000000 100000000 16 script - from - slice 3 budget 5 workers 7 number 0 false files 1",
     ),
     (
         "run a --slice 00000000000000000000000000000007",
-        "Run 7 10000000 0 script - from - workers - number 0 false files 1",
+        "Run 7 10000000 0 script - from - slice 3 budget - workers - number 0 false files 1",
     ),
     (
         "run a --workers 000000000000000000000000000000000016",
-        "Run 1000 10000000 16 script - from - workers 3 number 0 false files 1",
+        "Run 1000 10000000 16 script - from - slice - budget - workers 3 number 0 false files 1",
     ),
     (
         "run a --script --slice 5",
-        "Run 1000 10000000 0 script 3 from - workers - number 0 false files 1 4",
+        "Run 1000 10000000 0 script 3 from - slice - budget - workers - number 0 false files 1 4",
     ),
     (
         "run a --script --script",
-        "Run 1000 10000000 0 script 3 from - workers - number 0 false files 1",
+        "Run 1000 10000000 0 script 3 from - slice - budget - workers - number 0 false files 1",
     ),
     (
         "check a b",
-        "Check 1000 10000000 0 script - from - workers - number 0 false files 1 2",
+        "Check 1000 10000000 0 script - from - slice - budget - workers - number 0 false files 1 2",
     ),
     (
         "list a",
-        "List 1000 10000000 0 script - from - workers - number 0 false files 1",
+        "List 1000 10000000 0 script - from - slice - budget - workers - number 0 false files 1",
     ),
     (
         "replay --from j a --script --from b --budget 0200",
-        "Replay 1000 200 0 script 5 from 2 workers - number 0 false files 3 6",
+        "Replay 1000 200 0 script 5 from 2 slice - budget 8 workers - number 0 false files 3 6",
     ),
     (
         "replay a --from --from",
-        "Replay 1000 10000000 0 script - from 3 workers - number 0 false files 1",
+        "Replay 1000 10000000 0 script - from 3 slice - budget - workers - number 0 false files 1",
     ),
     (
         "make 1",
-        "Make 1000 10000000 0 script - from - workers - number 1 false files",
+        "Make 1000 10000000 0 script - from - slice - budget - workers - number 1 false files",
     ),
     (
         "make --workers 3 0900",
-        "Make 1000 10000000 3 script - from - workers 2 number 900 false files",
+        "Make 1000 10000000 3 script - from - slice - budget - workers 2 number 900 false files",
     ),
 ];
 

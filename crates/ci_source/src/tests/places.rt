@@ -1,44 +1,27 @@
 //! Lines and columns at which sources are refused.
-use super::asked::{has_tree, repeated};
-use crate::{SourceFault, fault_text, lexical_fault};
-use ci_base::place_of;
-use ci_lexer::lex;
-use ci_parser::{ParseFault, parse};
-use ci_tree::Token;
+use super::files::read;
+use crate::{SourceFault, fault_text};
+use ci_base::{Bytes, place_of};
 use std::alloc::Global;
 use std::process::Abort;
 use std::test::Fail;
 
-/// Where the token begins.
-fn offset_of(tokens: &[Token], at: u32) -> Result<u32, Fail> {
-    match tokens.get(at as usize) {
-        Some(token) => Ok(token.place),
-        None => Err(Fail::from("a token of the source")),
-    }
-}
-
 /// The text of the fault of a source, and the offset at which it is told.
 fn told(rt: &impl Abort, alloc: Global, source: &[u8]) -> Result<(&'static [u8], u32), Fail> {
-    assert!(rt; source.len() <= 262144);
-    let tokens = match lex(alloc, source) {
-        Ok(tokens) => tokens,
-        Err(fault) => {
-            return match lexical_fault(fault) {
-                SourceFault::Refused { fault, offset } => Ok((fault_text(fault), offset)),
-                SourceFault::Memory => Err(Fail::from("memory for tokens")),
-            };
-        }
-    };
-    match parse(alloc, &tokens) {
+    let sources = [Bytes::copy(alloc, source)?];
+    match read(rt, alloc, &sources) {
         Ok(_) => Err(Fail::from("a fault")),
-        Err(ParseFault::Unexpected { at }) => {
-            Ok((b"unexpected token", offset_of(tokens.tokens(), at)?))
+        Err(
+            SourceFault::Refused {
+                file,
+                fault,
+                offset,
+            },
+        ) => {
+            assert_eq!(rt; file, 0);
+            Ok((fault_text(fault), offset))
         }
-        Err(ParseFault::UnexpectedEnd) => Ok((b"unexpected end", source.len() as u32)),
-        Err(ParseFault::TooDeep { at }) => {
-            Ok((b"nesting too deep", offset_of(tokens.tokens(), at)?))
-        }
-        Err(ParseFault::Memory) => Err(Fail::from("memory for a tree")),
+        Err(SourceFault::Memory) => Err(Fail::from("memory for a source")),
     }
 }
 
@@ -66,9 +49,11 @@ fn is_refused(
 #[test]
 fn lines_and_columns_of_refused_sources(rt: HostRuntime) -> Result<(), Fail> {
     let alloc = rt.alloc();
-    let deep = repeated(alloc, "(", 33)?;
-    let deep = deep.as_str();
-    let parentheses = format!(in alloc; "FUNCTION F()\r\n\tRETURN\n{deep}")?;
+    let mut parentheses = String::new(alloc);
+    parentheses.push_str("FUNCTION F()\r\n\tRETURN\n")?;
+    for _ in 0..33 {
+        parentheses.push_str("(")?;
+    }
     let rows = [
         (
             b"FUNCTION Main() TraceMsg(\"a^qb\"); END".as_slice(),
@@ -117,14 +102,4 @@ fn lines_and_columns_of_refused_sources(rt: HostRuntime) -> Result<(), Fail> {
         is_refused(&rt, alloc, source, line, column, text)?;
     }
     Ok(())
-}
-
-#[test]
-fn letter_case_and_lone_semicolons(rt: HostRuntime) -> Result<(), Fail> {
-    has_tree(
-        &rt,
-        rt.alloc(),
-        "function main() ; tracemsg(\"x\") ; end ! c",
-        "1: PUBLIC main() 5: tracemsg(\"x\"@7); END",
-    )
 }
