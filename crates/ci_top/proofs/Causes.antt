@@ -1,19 +1,27 @@
 -- Two causes that hold of the same words agree.
-use Rattle.std.proofs.Common.{◌≡◌, ℕ, ◌<◌, ◌≤◌, List, [], ◌∷◌, ◌++◌, length, Option, Some, None, Result, Ok, Err, IsSomeAnd, refl, sym, ◌∙◌, ap, subst, arith, inl, inr}
+use Rattle.std.proofs.Common.{◌≡◌, ℕ, ◌<◌, ◌≤◌, true, false, List, [], ◌∷◌, ◌++◌, length, Option, Some, None, Result, Ok, Err, IsSomeAnd, refl, sym, ◌∙◌, ap, subst, arith, ◌⊎◌, inl, inr}
 use Rattle.std.specs.FinMap.{get}
+use Rattle.std.specs.List.{slice_get}
 use Rattle.ci_outside.specs.Causes.{Rose}
 use Rattle.ci_outside.specs.Shelf.{Files, HasFile}
 use Rattle.ci_source.specs.declared.fault.Fault.{Fault}
-use Rattle.ci_source.specs.Sources.{HasFault}
-use Rattle.ci_source.specs.Laws.{HasOneFirstFault, NeverBothMeanings}
-use Rattle.ci_tree.specs.declared.project.Project.{Project}
+use Rattle.ci_source.specs.Compiling.{HasFirstFault, parse_to}
+use Rattle.ci_source.specs.FirstForm.{files_form}
+use Rattle.ci_source.specs.Laws.{HaveOneFirstFault, NeverBothMeanings, HaveOneTrees}
+use Rattle.ci_tree.specs.declared.trace_project.TraceProject.{TraceProject}
+use Rattle.ci_tree.specs.Tree.{Item}
+use Rattle.ci_words.specs.declared.command.Command.{Command}
+use Rattle.ci_words.specs.declared.command.Command.TheVariants as commands
+use Rattle.ci_words.specs.declared.fault.WordFault.{WordFault}
+use Rattle.ci_words.specs.declared.order.Order.{Order}
+use Rattle.ci_words.specs.Order.{Orders}
+use Rattle.ci_words.proofs.Answer.{one_answer}
 use Rattle.ci_top.specs.declared.decision.FileFault.{FileFault}
-use Rattle.ci_top.specs.declared.decision.WordsFault.{WordsFault}
 use Rattle.ci_top.specs.declared.decision.FileFault.TheVariants as faults
-use Rattle.ci_top.specs.Answers.{Kept, words_refused, not_fetched, source_refused, no_memory, ran, FaultHolds, Fetched, ComesTo, HasAll, Compiles, IsRun, IsRefused}
+use Rattle.ci_top.specs.Answers.{Kept, Cause, words_refused, workers_refused, order_not_built, not_fetched, source_refused, form_refused, checked, no_memory, ran, Holds, FaultHolds, Fetched, ComesTo, HasAll, Compiles, RunsAs, HasNoForm, IsRun, IsRefused, IsOfNoForm, IsChecked}
+use Rattle.ci_top.specs.Asked.{names_of, is_built, AskFor, AskForWorkers, AskForUnbuilt, AreRefused}
 use Rattle.ci_top.specs.Defaults.{source_limit}
 use Rattle.ci_top.specs.OneCause.{OneCause}
-use Rattle.ci_top.specs.Order.{Order, order}
 use Rattle.ci_top.specs.World.{World}
 
 option_clash : {A : Type 0} (x : A) (o : Option A) → o ≡ None → o ≡ Some x → ⊥
@@ -81,8 +89,50 @@ first_fault files before now fault other (x ∷ front) (y ∷ front') behind beh
     (omega (arith, found.0), found.1)
 
 -- the words have one order
-one_order : (words : List (List ℕ)) (asked asked' : Order) → order words ≡ Ok asked → order words ≡ Ok asked' → asked ≡ asked'
-one_order words asked asked' one two = let both : Result.Ok asked ≡ Ok asked' = sym one ∙ two in cc
+pub one_order : (words : List (List ℕ)) (asked asked' : Order) → Orders words (Ok asked) → Orders words (Ok asked') → asked ≡ asked'
+one_order words asked asked' one two =
+    let left : Result Order WordFault = Ok asked' in
+    let both : left ≡ Ok asked = one_answer words (Ok asked) (Ok asked') one two in
+    cc
+
+-- the words have one fault
+one_refusal : (words : List (List ℕ)) (fault other : WordFault) → Orders words (Err fault) → Orders words (Err other) → fault ≡ other
+one_refusal words fault other one two =
+    let left : Result Order WordFault = Err other in
+    let both : left ≡ Err fault = one_answer words (Err fault) (Err other) one two in
+    cc
+
+-- words that are in order have no fault
+order_clash : (words : List (List ℕ)) (asked : Order) (fault : WordFault) → Orders words (Ok asked) → Orders words (Err fault) → ⊥
+order_clash words asked fault one two =
+    let Family : Result Order WordFault → Type 0 = λ r. elim r [ Ok a ↦ ⊥ | Err e ↦ Unit {0} ] in
+    subst Family (one_answer words (Ok asked) (Err fault) one two) tt
+
+true_clash : false ≡ true → ⊥
+true_clash same = cc
+
+-- workers that are asked for are above 0
+workers_clash : (words : List (List ℕ)) (index : ℕ) (asked : Order) → AskForWorkers words index → Orders words (Ok asked) → asked.limits.workers ≡ 0 → ⊥
+workers_clash words index asked refused asks alone =
+    let same : refused.asked ≡ asked = one_order words refused.asked asked refused.words_are asks in
+    let workers : refused.asked.limits.workers ≡ asked.limits.workers = ap (λ o. o.limits.workers) same in
+    let some : 0 < refused.asked.limits.workers = refused.some in
+    omega arith
+
+-- words that are refused ask for no order that can be done
+pub refused-not_asked : (words : List (List ℕ)) (asked : Order) → AreRefused words → AskFor words asked → ⊥
+refused-not_asked words asked (inl (fault, has)) asks = order_clash words asked fault asks.words_are has
+refused-not_asked words asked (inr (inl (index, refused))) asks = workers_clash words index asked refused asks.words_are asks.alone
+refused-not_asked words asked (inr (inr refused)) asks =
+    let same : is_built refused.asked ≡ is_built asked = ap is_built (one_order words refused.asked asked refused.words_are asks.words_are) in
+    true_clash (sym refused.unbuilt ∙ same ∙ asks.built)
+
+-- workers are asked for at one index
+one_index : (words : List (List ℕ)) (index other : ℕ) → AskForWorkers words index → AskForWorkers words other → index ≡ other
+one_index words index other one two =
+    let same : one.asked ≡ two.asked = one_order words one.asked two.asked one.words_are two.words_are in
+    let both : Some index ≡ Some other = sym one.index_is ∙ ap (λ o. o.workers_at) same ∙ two.index_is in
+    cc
 
 -- files have one list of contents
 one_contents : (files : Files) (names contents contents' : List (List ℕ)) → Fetched (Some files) names contents → Fetched (Some files) names contents' → contents ≡ contents'
@@ -98,103 +148,233 @@ one_contents files (name ∷ names) (c ∷ cs) (d ∷ ds) one two =
       some_same : (x y : List ℕ) → Some x ≡ Some y → x ≡ y
       some_same x y e = cc
 
--- the words have one fault
-one_refusal : (words : List (List ℕ)) (fault other : WordsFault) → order words ≡ Err fault → order words ≡ Err other → fault ≡ other
-one_refusal words fault other one two = cc
-
--- words that are in order aren't refused
-order_clash : (words : List (List ℕ)) (asked : Order) (fault : WordsFault) → order words ≡ Ok asked → order words ≡ Err fault → ⊥
-order_clash words asked fault one two =
-    let Family : Result Order WordsFault → Type 0 = λ r. elim r [ Ok a ↦ Unit {0} | Err e ↦ ⊥ ] in
-    subst Family (sym one ∙ two) tt
-
 -- where a file is at fault, not all files were fetched
-not_all : (words : List (List ℕ)) (files : Files) (before now number : ℕ) (fault : FileFault) (name : List ℕ) (contents : List (List ℕ)) → (Rose before now → ⊥) → ComesTo words (Some files) number name
+pub not_all : (words : List (List ℕ)) (files : Files) (before now number : ℕ) (fault : FileFault) (name : List ℕ) (contents : List (List ℕ)) → (Rose before now → ⊥) → ComesTo words (Some files) number name
     → FaultHolds (Some files) before now fault name → HasAll words (Some files) contents → ⊥
 not_all words files before now number fault name contents calm comes holds all =
-    let names : all.asked.names ≡ comes.before ++ name ∷ comes.after = ap (λ o. o.names) (one_order words all.asked comes.asked all.words_are comes.words_are) ∙ comes.names_are in
+    let names : names_of words all.asked ≡ comes.next.before ++ name ∷ comes.next.after =
+    ap (names_of words) (one_order words all.asked comes.asked all.asks.words_are comes.asks.words_are) ∙ comes.next.names_are in
     let Family : List (List ℕ) → Type 0 = λ l. Fetched (Some files) l contents in
     let found : (content : List ℕ) × HasFile (Some files) name content × (length content ≤ source_limit) =
-    fetched-at (Some files) comes.before comes.after name contents (subst Family names all.fetched) in
+    fetched-at (Some files) comes.next.before comes.next.after name contents (subst Family names all.fetched) in
     fetched-no_fault files before now fault name found.0 calm found.1 found.2 holds
 
 -- all files have one list of contents
-all_contents : (words : List (List ℕ)) (files : Files) (contents contents' : List (List ℕ)) → HasAll words (Some files) contents → HasAll words (Some files) contents' → contents ≡ contents'
+pub all_contents : (words : List (List ℕ)) (files : Files) (contents contents' : List (List ℕ)) → HasAll words (Some files) contents → HasAll words (Some files) contents' → contents ≡ contents'
 all_contents words files contents contents' one two =
-    let Family : Order → Type 0 = λ o. Fetched (Some files) o.names contents' in
-    one_contents files one.asked.names contents contents' one.fetched (subst Family (one_order words two.asked one.asked two.words_are one.words_are) two.fetched)
-
--- a source that is refused isn't run
-refused-not_run : NeverBothMeanings → (words : List (List ℕ)) (files : Files) (kept : Kept) (name source : List ℕ) (fault : Fault) (offset : ℕ) (project : Project) (world : World)
-    → IsRefused words (Some files) name source fault offset → IsRun words (Some files) kept project world → ⊥
-refused-not_run never_both words files kept name source fault offset project world refused run =
-    let Family : List (List ℕ) → Type 0 = λ l. Compiles l project in
-    never_both source project fault offset (subst Family (all_contents words files run.contents (source ∷ []) run.read refused.read) run.compiled) refused.refused
-
--- the first of the files has one name
-first_name : (words : List (List ℕ)) (files : Option Files) (name other : List ℕ) → ComesTo words files 1 name → ComesTo words files 1 other → name ≡ other
-first_name words files name other one two =
-    heads one.before two.before one.after two.after (omega (arith, one.number_is)) (omega (arith, two.number_is))
-    (sym one.names_are ∙ ap (λ o. o.names) (one_order words one.asked two.asked one.words_are two.words_are) ∙ two.names_are) where
-      heads : (front front' behind behind' : List (List ℕ)) → length front ≡ 0 → length front' ≡ 0 → front ++ name ∷ behind ≡ front' ++ other ∷ behind' → name ≡ other
-      heads [] [] behind behind' none none' names = cc
-      heads [] (x ∷ front') behind behind' none none' names = absurd (omega arith)
-      heads (x ∷ front) front' behind behind' none none' names = absurd (omega arith)
+    let Family : Order → Type 0 = λ o. Fetched (Some files) (names_of words o) contents' in
+    one_contents files (names_of words one.asked) contents contents' one.fetched (subst Family (one_order words two.asked one.asked two.asks.words_are one.asks.words_are) two.fetched)
 
 -- two files at fault are one
 same_file : (words : List (List ℕ)) (files : Files) (before now : ℕ) (fault other : FileFault) (number number' : ℕ) (name name' : List ℕ) → (Rose before now → ⊥)
     → ComesTo words (Some files) number name → FaultHolds (Some files) before now fault name → ComesTo words (Some files) number' name' → FaultHolds (Some files) before now other name'
     → not_fetched fault number name ≡ not_fetched other number' name'
 same_file words files before now fault other number number' name name' calm one holds two holds' =
-    let names : one.before ++ name ∷ one.after ≡ two.before ++ name' ∷ two.after =
-    sym one.names_are ∙ ap (λ o. o.names) (one_order words one.asked two.asked one.words_are two.words_are) ∙ two.names_are in
-    let found : (length one.before ≡ length two.before) × (name ≡ name') =
-    first_fault files before now fault other one.before two.before one.after two.after name name' one.contents two.contents calm names one.fetched two.fetched holds holds' in
+    let names : one.next.before ++ name ∷ one.next.after ≡ two.next.before ++ name' ∷ two.next.after =
+    sym one.next.names_are ∙ ap (names_of words) (one_order words one.asked two.asked one.asks.words_are two.asks.words_are) ∙ two.next.names_are in
+    let found : (length one.next.before ≡ length two.next.before) × (name ≡ name') =
+    first_fault files before now fault other one.next.before two.next.before one.next.after two.next.after name name' one.next.contents two.next.contents calm names one.next.fetched two.next.fetched holds holds' in
     let Family : List ℕ → Type 0 = λ n. FaultHolds (Some files) before now other n in
     let faults_same : fault ≡ other = same_fault files before now fault other name calm holds (subst Family (sym found.1) holds') in
     let names_same : name ≡ name' = found.1 in
-    let numbers_same : number ≡ number' = omega (arith, one.number_is, two.number_is, found.0) in
+    let numbers_same : number ≡ number' = omega (arith, one.next.number_is, two.next.number_is, found.0) in
     cc
 
--- a source is refused in one way
-same_refusal : HasOneFirstFault → (words : List (List ℕ)) (files : Files) (name name' source source' : List ℕ) (fault fault' : Fault) (offset offset' : ℕ)
+-- a list has one member at an index
+one_member : (xs ys : List (List ℕ)) (i j : ℕ) (x y : List ℕ) → xs ≡ ys → i ≡ j → slice_get xs i ≡ Some x → slice_get ys j ≡ Some y → x ≡ y
+one_member xs ys i j x y lists indexes one two =
+    let both : slice_get xs i ≡ slice_get ys j = ap (λ l. slice_get l i) lists ∙ ap (slice_get ys) indexes in
+    let same : Some x ≡ Some y = sym one ∙ both ∙ two in
+    cc
+
+-- the names of the files of the order
+one_names : (words : List (List ℕ)) (files : Files) (contents contents' : List (List ℕ)) (one : HasAll words (Some files) contents) (two : HasAll words (Some files) contents') → names_of words one.asked ≡ names_of words two.asked
+one_names words files contents contents' one two = ap (names_of words) (one_order words one.asked two.asked one.asks.words_are two.asks.words_are)
+
+-- sources are refused in one way
+same_refusal : HaveOneFirstFault → (words : List (List ℕ)) (files : Files) (name name' source source' : List ℕ) (fault fault' : Fault) (offset offset' : ℕ)
     → IsRefused words (Some files) name source fault offset → IsRefused words (Some files) name' source' fault' offset' → source_refused name source fault offset ≡ source_refused name' source' fault' offset'
 same_refusal one_fault words files name name' source source' fault fault' offset offset' one two =
-    let lists : source ∷ [] ≡ source' ∷ [] = all_contents words files (source ∷ []) (source' ∷ []) one.read two.read in
-    let sources : source ≡ source' = cc in
-    let names : name ≡ name' = first_name words (Some files) name name' one.first two.first in
-    let Family : List ℕ → Type 0 = λ s. HasFault s fault' offset' in
-    let found : (fault ≡ fault') × (offset ≡ offset') = one_fault source fault fault' offset offset' one.refused (subst Family (sym sources) two.refused) in
-    let faults_same : fault ≡ fault' = found.0 in
-    let offsets_same : offset ≡ offset' = found.1 in
+    let lists : one.contents ≡ two.contents = all_contents words files one.contents two.contents one.read two.read in
+    let Family : List (List ℕ) → Type 0 = λ l. HasFirstFault l two.file fault' offset' in
+    let found : (one.file ≡ two.file) × (fault ≡ fault') × (offset ≡ offset') =
+    one_fault one.contents one.file two.file fault fault' offset offset' one.refused (subst Family (sym lists) two.refused) in
+    let names : name ≡ name' = one_member _ _ one.file two.file name name' (one_names words files one.contents two.contents one.read two.read) found.0 one.name_is two.name_is in
+    let sources : source ≡ source' = one_member one.contents two.contents one.file two.file source source' lists found.0 one.source_is two.source_is in
+    let faults_same : fault ≡ fault' = found.1 in
+    let offsets_same : offset ≡ offset' = found.2 in
     cc
 
+-- sources that are refused don't compile
+pub refused-not_compiled : NeverBothMeanings → (words : List (List ℕ)) (files : Files) (name source : List ℕ) (fault : Fault) (offset : ℕ) (contents : List (List ℕ))
+    → IsRefused words (Some files) name source fault offset → HasAll words (Some files) contents → Compiles contents → ⊥
+refused-not_compiled never_both words files name source fault offset contents refused read compiled =
+    let Family : List (List ℕ) → Type 0 = λ l. HasFirstFault l refused.file fault offset in
+    never_both contents compiled.0 refused.file fault offset compiled.1
+    (subst Family (all_contents words files refused.contents contents refused.read read) refused.refused)
+
+-- sources are of the form that can be run, or of another
+pub form_clash : HaveOneTrees → (sources sources' : List (List ℕ)) (project : TraceProject) → sources ≡ sources' → RunsAs sources project → HasNoForm sources' → ⊥
+form_clash one_trees sources sources' project same runs none =
+    let Family : List (List ℕ) → Type 0 = λ l. parse_to l none.trees in
+    let trees_same : runs.trees ≡ none.trees = one_trees sources runs.trees none.trees runs.parsed (subst Family (sym same) none.parsed) in
+    option_clash project (files_form none.trees) none.no_form (sym (ap files_form trees_same) ∙ runs.form)
+
+-- an order has one command
+pub command_clash : (words : List (List ℕ)) (files : Option Files) (contents contents' : List (List ℕ)) (one : HasAll words files contents) (two : HasAll words files contents') → one.asked.command ≡ commands.Run → two.asked.command ≡ commands.Check → ⊥
+command_clash words files contents contents' one two runs checks =
+    let same : one.asked.command ≡ two.asked.command = ap (λ o. o.command) (one_order words one.asked two.asked one.asks.words_are two.asks.words_are) in
+    let Family : Command → Type 0 = λ c. elim c [ commands.Run ↦ Unit {0} | commands.Check ↦ ⊥ | commands.List ↦ Unit {0} | commands.Replay ↦ Unit {0} | commands.Make ↦ Unit {0} ] in
+    subst Family (sym runs ∙ same ∙ checks) tt
+
+-- the first of the files has one name
+same_first : (words : List (List ℕ)) (files : Files) (name name' : List ℕ) → IsOfNoForm words (Some files) name → IsOfNoForm words (Some files) name' → name ≡ name'
+same_first words files name name' one two = one_member _ _ 0 0 name name' (one_names words files one.contents two.contents one.read two.read) refl one.name_is two.name_is
+
 -- two causes that hold agree
-pub one_cause_lem : HasOneFirstFault → NeverBothMeanings → OneCause
-one_cause_lem one_fault never_both words files before now kept kept' (words_refused fault) (words_refused other) calm one two = inl (ap words_refused (one_refusal words fault other one.1 two.1))
-one_cause_lem one_fault never_both words files before now kept kept' (words_refused fault) (not_fetched f number name) calm one two = absurd (order_clash words two.1.asked fault two.1.words_are one.1)
-one_cause_lem one_fault never_both words files before now kept kept' (words_refused fault) (source_refused name source other offset) calm one two = absurd (order_clash words two.1.read.asked fault two.1.read.words_are one.1)
-one_cause_lem one_fault never_both words files before now kept kept' (words_refused fault) no_memory calm one two = inr refl
-one_cause_lem one_fault never_both words files before now kept kept' (words_refused fault) (ran project world) calm one two = absurd (order_clash words two.read.asked fault two.read.words_are one.1)
-one_cause_lem one_fault never_both words files before now kept kept' (not_fetched f number name) (words_refused fault) calm one two = absurd (order_clash words one.1.asked fault one.1.words_are two.1)
-one_cause_lem one_fault never_both words files before now kept kept' (not_fetched f number name) (not_fetched f' number' name') calm one two =
+pub one_cause_lem : HaveOneFirstFault → NeverBothMeanings → HaveOneTrees → OneCause
+one_cause_lem one_fault never_both one_trees words files before now kept kept' (words_refused fault) (words_refused fault') calm one two =
+    inl (ap words_refused (one_refusal words fault fault' one.1 two.1))
+one_cause_lem one_fault never_both one_trees words files before now kept kept' (words_refused fault) (workers_refused index') calm one two =
+    absurd (order_clash words two.1.asked fault two.1.words_are one.1)
+one_cause_lem one_fault never_both one_trees words files before now kept kept' (words_refused fault) order_not_built calm one two =
+    absurd (order_clash words two.1.asked fault two.1.words_are one.1)
+one_cause_lem one_fault never_both one_trees words files before now kept kept' (words_refused fault) (not_fetched f' number' name') calm one two =
+    absurd (refused-not_asked words two.1.asked (inl (fault, one.1)) two.1.asks)
+one_cause_lem one_fault never_both one_trees words files before now kept kept' (words_refused fault) (source_refused name' source' fault' offset') calm one two =
+    absurd (refused-not_asked words two.1.read.asked (inl (fault, one.1)) two.1.read.asks)
+one_cause_lem one_fault never_both one_trees words files before now kept kept' (words_refused fault) (form_refused name') calm one two =
+    absurd (refused-not_asked words two.1.read.asked (inl (fault, one.1)) two.1.read.asks)
+one_cause_lem one_fault never_both one_trees words files before now kept kept' (words_refused fault) checked calm one two =
+    absurd (refused-not_asked words two.1.read.asked (inl (fault, one.1)) two.1.read.asks)
+one_cause_lem one_fault never_both one_trees words files before now kept kept' (words_refused fault) no_memory calm one two =
+    inr refl
+one_cause_lem one_fault never_both one_trees words files before now kept kept' (words_refused fault) (ran project' world') calm one two =
+    absurd (refused-not_asked words two.read.asked (inl (fault, one.1)) two.read.asks)
+one_cause_lem one_fault never_both one_trees words files before now kept kept' (workers_refused index) (words_refused fault') calm one two =
+    absurd (order_clash words one.1.asked fault' one.1.words_are two.1)
+one_cause_lem one_fault never_both one_trees words files before now kept kept' (workers_refused index) (workers_refused index') calm one two =
+    inl (ap workers_refused (one_index words index index' one.1 two.1))
+one_cause_lem one_fault never_both one_trees words files before now kept kept' (workers_refused index) order_not_built calm one two =
+    absurd (workers_clash words index two.1.asked one.1 two.1.words_are two.1.alone)
+one_cause_lem one_fault never_both one_trees words files before now kept kept' (workers_refused index) (not_fetched f' number' name') calm one two =
+    absurd (refused-not_asked words two.1.asked (inr (inl (index, one.1))) two.1.asks)
+one_cause_lem one_fault never_both one_trees words files before now kept kept' (workers_refused index) (source_refused name' source' fault' offset') calm one two =
+    absurd (refused-not_asked words two.1.read.asked (inr (inl (index, one.1))) two.1.read.asks)
+one_cause_lem one_fault never_both one_trees words files before now kept kept' (workers_refused index) (form_refused name') calm one two =
+    absurd (refused-not_asked words two.1.read.asked (inr (inl (index, one.1))) two.1.read.asks)
+one_cause_lem one_fault never_both one_trees words files before now kept kept' (workers_refused index) checked calm one two =
+    absurd (refused-not_asked words two.1.read.asked (inr (inl (index, one.1))) two.1.read.asks)
+one_cause_lem one_fault never_both one_trees words files before now kept kept' (workers_refused index) no_memory calm one two =
+    inr refl
+one_cause_lem one_fault never_both one_trees words files before now kept kept' (workers_refused index) (ran project' world') calm one two =
+    absurd (refused-not_asked words two.read.asked (inr (inl (index, one.1))) two.read.asks)
+one_cause_lem one_fault never_both one_trees words files before now kept kept' order_not_built (words_refused fault') calm one two =
+    absurd (order_clash words one.1.asked fault' one.1.words_are two.1)
+one_cause_lem one_fault never_both one_trees words files before now kept kept' order_not_built (workers_refused index') calm one two =
+    absurd (workers_clash words index' one.1.asked two.1 one.1.words_are one.1.alone)
+one_cause_lem one_fault never_both one_trees words files before now kept kept' order_not_built order_not_built calm one two =
+    inl refl
+one_cause_lem one_fault never_both one_trees words files before now kept kept' order_not_built (not_fetched f' number' name') calm one two =
+    absurd (refused-not_asked words two.1.asked (inr (inr one.1)) two.1.asks)
+one_cause_lem one_fault never_both one_trees words files before now kept kept' order_not_built (source_refused name' source' fault' offset') calm one two =
+    absurd (refused-not_asked words two.1.read.asked (inr (inr one.1)) two.1.read.asks)
+one_cause_lem one_fault never_both one_trees words files before now kept kept' order_not_built (form_refused name') calm one two =
+    absurd (refused-not_asked words two.1.read.asked (inr (inr one.1)) two.1.read.asks)
+one_cause_lem one_fault never_both one_trees words files before now kept kept' order_not_built checked calm one two =
+    absurd (refused-not_asked words two.1.read.asked (inr (inr one.1)) two.1.read.asks)
+one_cause_lem one_fault never_both one_trees words files before now kept kept' order_not_built no_memory calm one two =
+    inr refl
+one_cause_lem one_fault never_both one_trees words files before now kept kept' order_not_built (ran project' world') calm one two =
+    absurd (refused-not_asked words two.read.asked (inr (inr one.1)) two.read.asks)
+one_cause_lem one_fault never_both one_trees words files before now kept kept' (not_fetched f number name) (words_refused fault') calm one two =
+    absurd (refused-not_asked words one.1.asked (inl (fault', two.1)) one.1.asks)
+one_cause_lem one_fault never_both one_trees words files before now kept kept' (not_fetched f number name) (workers_refused index') calm one two =
+    absurd (refused-not_asked words one.1.asked (inr (inl (index', two.1))) one.1.asks)
+one_cause_lem one_fault never_both one_trees words files before now kept kept' (not_fetched f number name) order_not_built calm one two =
+    absurd (refused-not_asked words one.1.asked (inr (inr two.1)) one.1.asks)
+one_cause_lem one_fault never_both one_trees words files before now kept kept' (not_fetched f number name) (not_fetched f' number' name') calm one two =
     inl (same_file words files before now f f' number number' name name' calm one.1 one.2 two.1 two.2)
-one_cause_lem one_fault never_both words files before now kept kept' (not_fetched f number name) (source_refused name' source fault offset) calm one two =
-    absurd (not_all words files before now number f name (source ∷ []) calm one.1 one.2 two.1.read)
-one_cause_lem one_fault never_both words files before now kept kept' (not_fetched f number name) no_memory calm one two = inr refl
-one_cause_lem one_fault never_both words files before now kept kept' (not_fetched f number name) (ran project world) calm one two =
+one_cause_lem one_fault never_both one_trees words files before now kept kept' (not_fetched f number name) (source_refused name' source' fault' offset') calm one two =
+    absurd (not_all words files before now number f name two.1.contents calm one.1 one.2 two.1.read)
+one_cause_lem one_fault never_both one_trees words files before now kept kept' (not_fetched f number name) (form_refused name') calm one two =
+    absurd (not_all words files before now number f name two.1.contents calm one.1 one.2 two.1.read)
+one_cause_lem one_fault never_both one_trees words files before now kept kept' (not_fetched f number name) checked calm one two =
+    absurd (not_all words files before now number f name two.1.contents calm one.1 one.2 two.1.read)
+one_cause_lem one_fault never_both one_trees words files before now kept kept' (not_fetched f number name) no_memory calm one two =
+    inr refl
+one_cause_lem one_fault never_both one_trees words files before now kept kept' (not_fetched f number name) (ran project' world') calm one two =
     absurd (not_all words files before now number f name two.contents calm one.1 one.2 two.read)
-one_cause_lem one_fault never_both words files before now kept kept' (source_refused name source other offset) (words_refused fault) calm one two = absurd (order_clash words one.1.read.asked fault one.1.read.words_are two.1)
-one_cause_lem one_fault never_both words files before now kept kept' (source_refused name source fault offset) (not_fetched f number name') calm one two =
-    absurd (not_all words files before now number f name' (source ∷ []) calm two.1 two.2 one.1.read)
-one_cause_lem one_fault never_both words files before now kept kept' (source_refused name source fault offset) (source_refused name' source' fault' offset') calm one two =
+one_cause_lem one_fault never_both one_trees words files before now kept kept' (source_refused name source fault offset) (words_refused fault') calm one two =
+    absurd (refused-not_asked words one.1.read.asked (inl (fault', two.1)) one.1.read.asks)
+one_cause_lem one_fault never_both one_trees words files before now kept kept' (source_refused name source fault offset) (workers_refused index') calm one two =
+    absurd (refused-not_asked words one.1.read.asked (inr (inl (index', two.1))) one.1.read.asks)
+one_cause_lem one_fault never_both one_trees words files before now kept kept' (source_refused name source fault offset) order_not_built calm one two =
+    absurd (refused-not_asked words one.1.read.asked (inr (inr two.1)) one.1.read.asks)
+one_cause_lem one_fault never_both one_trees words files before now kept kept' (source_refused name source fault offset) (not_fetched f' number' name') calm one two =
+    absurd (not_all words files before now number' f' name' one.1.contents calm two.1 two.2 one.1.read)
+one_cause_lem one_fault never_both one_trees words files before now kept kept' (source_refused name source fault offset) (source_refused name' source' fault' offset') calm one two =
     inl (same_refusal one_fault words files name name' source source' fault fault' offset offset' one.1 two.1)
-one_cause_lem one_fault never_both words files before now kept kept' (source_refused name source fault offset) no_memory calm one two = inr refl
-one_cause_lem one_fault never_both words files before now kept kept' (source_refused name source fault offset) (ran project world) calm one two = absurd (refused-not_run never_both words files kept' name source fault offset project world one.1 two)
-one_cause_lem one_fault never_both words files before now kept kept' no_memory other calm one two = inr refl
-one_cause_lem one_fault never_both words files before now kept kept' (ran project world) (words_refused fault) calm one two = absurd (order_clash words one.read.asked fault one.read.words_are two.1)
-one_cause_lem one_fault never_both words files before now kept kept' (ran project world) (not_fetched f number name) calm one two =
-    absurd (not_all words files before now number f name one.contents calm two.1 two.2 one.read)
-one_cause_lem one_fault never_both words files before now kept kept' (ran project world) (source_refused name source fault offset) calm one two = absurd (refused-not_run never_both words files kept name source fault offset project world two.1 one)
-one_cause_lem one_fault never_both words files before now kept kept' (ran project world) no_memory calm one two = inr refl
-one_cause_lem one_fault never_both words files before now kept kept' (ran project world) (ran project' world') calm one two = inr refl
+one_cause_lem one_fault never_both one_trees words files before now kept kept' (source_refused name source fault offset) (form_refused name') calm one two =
+    absurd (refused-not_compiled never_both words files name source fault offset two.1.contents one.1 two.1.read two.1.refused.compiled)
+one_cause_lem one_fault never_both one_trees words files before now kept kept' (source_refused name source fault offset) checked calm one two =
+    absurd (refused-not_compiled never_both words files name source fault offset two.1.contents one.1 two.1.read two.1.compiled)
+one_cause_lem one_fault never_both one_trees words files before now kept kept' (source_refused name source fault offset) no_memory calm one two =
+    inr refl
+one_cause_lem one_fault never_both one_trees words files before now kept kept' (source_refused name source fault offset) (ran project' world') calm one two =
+    absurd (refused-not_compiled never_both words files name source fault offset two.contents one.1 two.read two.compiled.compiled)
+one_cause_lem one_fault never_both one_trees words files before now kept kept' (form_refused name) (words_refused fault') calm one two =
+    absurd (refused-not_asked words one.1.read.asked (inl (fault', two.1)) one.1.read.asks)
+one_cause_lem one_fault never_both one_trees words files before now kept kept' (form_refused name) (workers_refused index') calm one two =
+    absurd (refused-not_asked words one.1.read.asked (inr (inl (index', two.1))) one.1.read.asks)
+one_cause_lem one_fault never_both one_trees words files before now kept kept' (form_refused name) order_not_built calm one two =
+    absurd (refused-not_asked words one.1.read.asked (inr (inr two.1)) one.1.read.asks)
+one_cause_lem one_fault never_both one_trees words files before now kept kept' (form_refused name) (not_fetched f' number' name') calm one two =
+    absurd (not_all words files before now number' f' name' one.1.contents calm two.1 two.2 one.1.read)
+one_cause_lem one_fault never_both one_trees words files before now kept kept' (form_refused name) (source_refused name' source' fault' offset') calm one two =
+    absurd (refused-not_compiled never_both words files name' source' fault' offset' one.1.contents two.1 one.1.read one.1.refused.compiled)
+one_cause_lem one_fault never_both one_trees words files before now kept kept' (form_refused name) (form_refused name') calm one two =
+    inl (ap form_refused (same_first words files name name' one.1 two.1))
+one_cause_lem one_fault never_both one_trees words files before now kept kept' (form_refused name) checked calm one two =
+    absurd (command_clash words (Some files) one.1.contents two.1.contents one.1.read two.1.read one.1.runs two.1.checks)
+one_cause_lem one_fault never_both one_trees words files before now kept kept' (form_refused name) no_memory calm one two =
+    inr refl
+one_cause_lem one_fault never_both one_trees words files before now kept kept' (form_refused name) (ran project' world') calm one two =
+    absurd (form_clash one_trees two.contents one.1.contents project' (all_contents words files two.contents one.1.contents two.read one.1.read) two.compiled one.1.refused)
+one_cause_lem one_fault never_both one_trees words files before now kept kept' checked (words_refused fault') calm one two =
+    absurd (refused-not_asked words one.1.read.asked (inl (fault', two.1)) one.1.read.asks)
+one_cause_lem one_fault never_both one_trees words files before now kept kept' checked (workers_refused index') calm one two =
+    absurd (refused-not_asked words one.1.read.asked (inr (inl (index', two.1))) one.1.read.asks)
+one_cause_lem one_fault never_both one_trees words files before now kept kept' checked order_not_built calm one two =
+    absurd (refused-not_asked words one.1.read.asked (inr (inr two.1)) one.1.read.asks)
+one_cause_lem one_fault never_both one_trees words files before now kept kept' checked (not_fetched f' number' name') calm one two =
+    absurd (not_all words files before now number' f' name' one.1.contents calm two.1 two.2 one.1.read)
+one_cause_lem one_fault never_both one_trees words files before now kept kept' checked (source_refused name' source' fault' offset') calm one two =
+    absurd (refused-not_compiled never_both words files name' source' fault' offset' one.1.contents two.1 one.1.read one.1.compiled)
+one_cause_lem one_fault never_both one_trees words files before now kept kept' checked (form_refused name') calm one two =
+    absurd (command_clash words (Some files) two.1.contents one.1.contents two.1.read one.1.read two.1.runs one.1.checks)
+one_cause_lem one_fault never_both one_trees words files before now kept kept' checked checked calm one two =
+    inl refl
+one_cause_lem one_fault never_both one_trees words files before now kept kept' checked no_memory calm one two =
+    inr refl
+one_cause_lem one_fault never_both one_trees words files before now kept kept' checked (ran project' world') calm one two =
+    absurd (command_clash words (Some files) two.contents one.1.contents two.read one.1.read two.runs one.1.checks)
+one_cause_lem one_fault never_both one_trees words files before now kept kept' no_memory other calm one two = inr refl
+one_cause_lem one_fault never_both one_trees words files before now kept kept' (ran project world) (words_refused fault') calm one two =
+    absurd (refused-not_asked words one.read.asked (inl (fault', two.1)) one.read.asks)
+one_cause_lem one_fault never_both one_trees words files before now kept kept' (ran project world) (workers_refused index') calm one two =
+    absurd (refused-not_asked words one.read.asked (inr (inl (index', two.1))) one.read.asks)
+one_cause_lem one_fault never_both one_trees words files before now kept kept' (ran project world) order_not_built calm one two =
+    absurd (refused-not_asked words one.read.asked (inr (inr two.1)) one.read.asks)
+one_cause_lem one_fault never_both one_trees words files before now kept kept' (ran project world) (not_fetched f' number' name') calm one two =
+    absurd (not_all words files before now number' f' name' one.contents calm two.1 two.2 one.read)
+one_cause_lem one_fault never_both one_trees words files before now kept kept' (ran project world) (source_refused name' source' fault' offset') calm one two =
+    absurd (refused-not_compiled never_both words files name' source' fault' offset' one.contents two.1 one.read one.compiled.compiled)
+one_cause_lem one_fault never_both one_trees words files before now kept kept' (ran project world) (form_refused name') calm one two =
+    absurd (form_clash one_trees one.contents two.1.contents project (all_contents words files one.contents two.1.contents one.read two.1.read) one.compiled two.1.refused)
+one_cause_lem one_fault never_both one_trees words files before now kept kept' (ran project world) checked calm one two =
+    absurd (command_clash words (Some files) one.contents two.1.contents one.read two.1.read one.runs two.1.checks)
+one_cause_lem one_fault never_both one_trees words files before now kept kept' (ran project world) no_memory calm one two =
+    inr refl
+one_cause_lem one_fault never_both one_trees words files before now kept kept' (ran project world) (ran project' world') calm one two =
+    inr refl

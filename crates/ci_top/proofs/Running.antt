@@ -3,7 +3,7 @@ use Rattle.std.proofs.Common.{◌≡◌, ℕ, ◌+◌, ◌<◌, ◌≤◌, drop,
 use Rattle.std.specs.Str.{str_eq_ignore_ascii_case}
 use Rattle.ci_base.specs.declared.entry.Entry.{Entry}
 use Rattle.ci_base.specs.declared.place.Status.TheVariants as statuses
-use Rattle.ci_tree.specs.declared.project.Project.{Project}
+use Rattle.ci_tree.specs.declared.trace_project.TraceProject.{TraceProject}
 use Rattle.ci_top.specs.Defaults.{default_script, default_budget}
 use Rattle.ci_top.specs.Meaning.{Configuration, entering, running, tracing}
 use Rattle.ci_top.specs.Ran.{the_start, the_trace, the_end, RanWhole}
@@ -32,18 +32,18 @@ abbrev pub alone : Shared → Configuration → World
 alone shared c = record { shared = shared; configurations = c ∷ [] }
 
 -- The task has these texts left: its function is not entered yet, a tick that is still to come, or it runs.
-abbrev pub Stands : Project → ℕ → List (List ℕ) → Configuration → Type 0
+abbrev pub Stands : TraceProject → ℕ → List (List ℕ) → Configuration → Type 0
 Stands project before left c = ((before ≡ 1) × (c ≡ entering) × (project.traces ≡ left)) ⊎ ((before ≡ 0) × (c ≡ running left))
 
 -- the run has come so far
-pub record Progress (project : Project) (entries : List Entry) (before worked : ℕ) (left : List (List ℕ)) : Type 0 where
+pub record Progress (project : TraceProject) (entries : List Entry) (before worked : ℕ) (left : List (List ℕ)) : Type 0 where
   pub at : Configuration
   pub stands : Stands project before left at
   pub run : Run project default_script entries (alone one_ready at)
   pub worked_is : worked ≡ work entries []
 
 -- steps and one more are steps
-Steps-snoc : (project : Project) (old mid new : World) (history : List Entry) (entry : Entry) → Steps project old history mid → Step project mid entry new → Steps project old (history ++ entry ∷ []) new
+Steps-snoc : (project : TraceProject) (old mid new : World) (history : List Entry) (entry : Entry) → Steps project old history mid → Step project mid entry new → Steps project old (history ++ entry ∷ []) new
 Steps-snoc project old mid new [] entry steps step =
     let Family : World → Type 0 = λ w. Step project w entry new in
     (new, subst Family steps step, refl)
@@ -55,7 +55,7 @@ work-snoc history entry =
     omega (arith, sum_by-append ticks_of history (entry ∷ []), length-append history (entry ∷ []))
 
 -- the first event starts the task
-first-step : (project : Project) → str_eq_ignore_ascii_case (codes "Main") project.name ≡ true
+first-step : (project : TraceProject) → str_eq_ignore_ascii_case (codes "Main") project.name ≡ true
     → Step project (opening_world project default_script) the_start (alone one_ready entering)
 first-step project main = record {
   rest = [];
@@ -68,7 +68,7 @@ first-step project main = record {
 }
 
 -- the next text is traced
-trace-step : (project : Project) (before : ℕ) (text : List ℕ) (left : List (List ℕ)) (c : Configuration) → Stands project before (text ∷ left) c
+trace-step : (project : TraceProject) (before : ℕ) (text : List ℕ) (left : List (List ℕ)) (c : Configuration) → Stands project before (text ∷ left) c
     → Step project (alone one_ready c) (the_trace (before + 1) text) (alone one_ready (running left))
 trace-step project before text left c (inl (ticks, at, traces)) = rw (ticks, at) (record {
   ready = refl;
@@ -96,7 +96,7 @@ trace-step project before text left c (inr (ticks, at)) = rw (ticks, at) (record
 })
 
 -- the task ends
-end-step : (project : Project) (before : ℕ) (c : Configuration) → Stands project before [] c → Step project (alone one_ready c) (the_end before) (alone one_ended (running []))
+end-step : (project : TraceProject) (before : ℕ) (c : Configuration) → Stands project before [] c → Step project (alone one_ready c) (the_end before) (alone one_ended (running []))
 end-step project before c (inl (ticks, at, traces)) = rw (ticks, at) (record {
   ready = refl;
   from = entering;
@@ -123,7 +123,7 @@ end-step project before c (inr (ticks, at)) = rw (ticks, at) (record {
 })
 
 -- the task was started
-pub progress-start : (project : Project) → str_eq_ignore_ascii_case (codes "Main") project.name ≡ true → Progress project (the_start ∷ []) 1 100 project.traces
+pub progress-start : (project : TraceProject) → str_eq_ignore_ascii_case (codes "Main") project.name ≡ true → Progress project (the_start ∷ []) 1 100 project.traces
 progress-start project main = record {
   at = entering;
   stands = inl (refl, refl, refl);
@@ -132,7 +132,7 @@ progress-start project main = record {
 }
 
 -- a text more was traced
-pub progress-trace : (project : Project) (entries : List Entry) (before worked : ℕ) (text : List ℕ) (left : List (List ℕ)) → Progress project entries before worked (text ∷ left)
+pub progress-trace : (project : TraceProject) (entries : List Entry) (before worked : ℕ) (text : List ℕ) (left : List (List ℕ)) → Progress project entries before worked (text ∷ left)
     → Progress project (entries ++ the_trace (before + 1) text ∷ []) 0 (worked + (before + 101)) left
 progress-trace project entries before worked text left progress = record {
   at = running left;
@@ -143,18 +143,18 @@ progress-trace project entries before worked text left progress = record {
 }
 
 -- the task has ended
-pub progress-end : (project : Project) (entries : List Entry) (before worked : ℕ) → Progress project entries before worked []
+pub progress-end : (project : TraceProject) (entries : List Entry) (before worked : ℕ) → Progress project entries before worked []
     → Run project default_script (entries ++ the_end before ∷ []) (alone one_ended (running []))
 progress-end project entries before worked progress =
     Steps-snoc project (opening_world project default_script) (alone one_ready progress.at) (alone one_ended (running [])) entries (the_end before) progress.run
     (end-step project before progress.at progress.stands)
 
-pub progress-end_work : (project : Project) (entries : List Entry) (before worked : ℕ) → Progress project entries before worked []
+pub progress-end_work : (project : TraceProject) (entries : List Entry) (before worked : ℕ) → Progress project entries before worked []
     → worked + (before + 100) ≡ work (entries ++ the_end before ∷ []) []
 progress-end_work project entries before worked progress = omega (arith, progress.worked_is, work-snoc entries (the_end before))
 
 -- at most one tick is still to come
-pub progress-before : (project : Project) (entries : List Entry) (before worked : ℕ) (left : List (List ℕ)) → Progress project entries before worked left → before ≤ 1
+pub progress-before : (project : TraceProject) (entries : List Entry) (before worked : ℕ) (left : List (List ℕ)) → Progress project entries before worked left → before ≤ 1
 progress-before project entries before worked left progress = elim progress.stands [ inl s ↦ omega (arith, s.0) | inr s ↦ omega (arith, s.0) ]
 
 -- the next of a list, and what is behind it
@@ -162,7 +162,7 @@ pub drop_step : {A : Type 0} (xs : List A) (i : ℕ) (x : A) → x ≡ get_or xs
 drop_step xs i x x_is within = drop_more xs i x within ∙ ap (λ y. y ∷ drop (i + 1) xs) (sym x_is)
 
 -- the text at this index was traced
-pub progress-at : (project : Project) (entries entries' : List Entry) (before worked i : ℕ) (texts : List (List ℕ)) (text : List ℕ) (entry : Entry)
+pub progress-at : (project : TraceProject) (entries entries' : List Entry) (before worked i : ℕ) (texts : List (List ℕ)) (text : List ℕ) (entry : Entry)
     → Progress project entries before worked (drop i texts) → text ≡ get_or texts i text → i < length texts
     → entry ≡ the_trace (before + 1) text → entries' ≡ entries ++ entry ∷ []
     → Progress project entries' 0 (worked + (before + 101)) (drop (i + 1) texts)
@@ -182,7 +182,7 @@ ended_not_waits : statuses.Ended 0 ≡ statuses.Waits → ⊥
 ended_not_waits same = let P : Status → Type 0 = λ s. elim s [ statuses.Ready ↦ Unit {0} | statuses.Waits ↦ ⊥ | statuses.Ended code ↦ Unit {0} | statuses.Killed ↦ Unit {0} ] in subst P same tt
 
 -- the run is whole once its task has ended
-pub ran-whole : (project : Project) (entries : List Entry) (before worked i : ℕ) (texts : List (List ℕ)) (entry : Entry) (ran : Ran)
+pub ran-whole : (project : TraceProject) (entries : List Entry) (before worked i : ℕ) (texts : List (List ℕ)) (entry : Entry) (ran : Ran)
     → Progress project entries before worked (drop i texts) → length texts ≤ i
     → entry ≡ the_end before → ran.history.entries ≡ entries ++ entry ∷ []
     → ran.end.tasks ≡ record { name = project.name; status = statuses.Ended 0; suspended = false } ∷ []

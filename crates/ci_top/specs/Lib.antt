@@ -5,7 +5,7 @@ pub mod World
 pub mod Work
 pub mod History
 pub mod Report
-pub mod Order
+pub mod Asked
 pub mod Defaults
 pub mod Answers
 pub mod Ran

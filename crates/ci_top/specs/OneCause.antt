@@ -2,19 +2,27 @@
 use Rattle.std.specs.Prelude.{◌≡◌, ℕ, Bool, true, false, ◌&&◌, ◌||◌, List, Some, IsTrue, ◌⊎◌}
 use Rattle.ci_outside.specs.Causes.{Rose}
 use Rattle.ci_outside.specs.Shelf.{Files}
-use Rattle.ci_top.specs.Answers.{Kept, Cause, words_refused, not_fetched, source_refused, no_memory, ran, Holds}
+use Rattle.ci_top.specs.Answers.{Kept, Cause, words_refused, workers_refused, order_not_built, not_fetched, source_refused, form_refused, checked, no_memory, ran, Holds}
 
 abbrev pub is_memory : Cause → Bool
 is_memory (words_refused fault) = false
+is_memory (workers_refused index) = false
+is_memory order_not_built = false
 is_memory (not_fetched fault number name) = false
 is_memory (source_refused name source fault offset) = false
+is_memory (form_refused name) = false
+is_memory checked = false
 is_memory no_memory = true
 is_memory (ran project world) = false
 
 abbrev pub is_run : Cause → Bool
 is_run (words_refused fault) = false
+is_run (workers_refused index) = false
+is_run order_not_built = false
 is_run (not_fetched fault number name) = false
 is_run (source_refused name source fault offset) = false
+is_run (form_refused name) = false
+is_run checked = false
 is_run no_memory = false
 is_run (ran project world) = true
 

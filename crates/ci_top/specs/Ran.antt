@@ -5,7 +5,7 @@ use Rattle.ci_base.specs.declared.entry.Entry.TheVariants as entries
 use Rattle.ci_base.specs.declared.event.EventKind.TheVariants as events
 use Rattle.ci_base.specs.declared.reply.Reply.TheVariants as replies
 use Rattle.ci_base.specs.declared.request.Request.TheVariants as requests
-use Rattle.ci_tree.specs.declared.project.Project.{Project}
+use Rattle.ci_tree.specs.declared.trace_project.TraceProject.{TraceProject}
 use Rattle.ci_top.specs.declared.run.Ran.{Ran}
 use Rattle.ci_top.specs.Defaults.{default_script, default_budget}
 use Rattle.ci_top.specs.Report.{CanTell, end_state}
@@ -26,7 +26,7 @@ abbrev pub the_end : ℕ → Entry
 the_end ticks = entries.Ask 1 ticks (requests.End 0) replies.Ends
 
 -- The history is a run of the project from the default script to its end, and the end state tells the world after it.
-pub record RanWhole (project : Project) (ran : Ran) : Type 0 where
+pub record RanWhole (project : TraceProject) (ran : Ran) : Type 0 where
   pub world : World
   pub run : Run project default_script ran.history.entries world
   pub loose : FitsLoose project world []

@@ -10,7 +10,7 @@ use Rattle.ci_base.specs.declared.place.Status.{Status}
 use Rattle.ci_base.specs.declared.place.Status.TheVariants as statuses
 use Rattle.ci_base.specs.declared.request.Request.{Request}
 use Rattle.ci_base.specs.declared.request.Request.TheVariants as requests
-use Rattle.ci_tree.specs.declared.project.Project.{Project}
+use Rattle.ci_tree.specs.declared.trace_project.TraceProject.{TraceProject}
 use Rattle.ci_top.specs.declared.history.EndState.{EndState}
 use Rattle.ci_top.specs.declared.history.TaskEnd.{TaskEnd}
 use Rattle.ci_top.specs.Shared.{Task, is_live_status}
@@ -69,11 +69,11 @@ abbrev pub report_text : List Entry → EndState → List ℕ
 report_text history end = flat_map entry_line history ++ task_lines 1 end.tasks ++ closing_line (length history) end.work end.ending
 
 -- how a task of the shared state stands
-abbrev pub task_end : Project → Task → TaskEnd
+abbrev pub task_end : TraceProject → Task → TaskEnd
 task_end project task = record { name = project.name; status = task.status; suspended = task.suspended }
 
 -- how the run stands at its end
-abbrev pub end_state : Project → List Entry → World → List Loose → Ending → EndState
+abbrev pub end_state : TraceProject → List Entry → World → List Loose → Ending → EndState
 end_state project history world loose ending = record {
   tasks = map (task_end project) world.shared.tasks;
   work = work history loose;
@@ -81,5 +81,5 @@ end_state project history world loose ending = record {
 }
 
 -- the report of a run and of the world after it
-abbrev pub report : Project → List Entry → World → List Loose → Ending → List ℕ
+abbrev pub report : TraceProject → List Entry → World → List Loose → Ending → List ℕ
 report project history world loose ending = report_text history (end_state project history world loose ending)

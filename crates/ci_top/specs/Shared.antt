@@ -17,7 +17,7 @@ use Rattle.ci_base.specs.declared.request.Request.TheVariants as requests
 use Rattle.ci_base.specs.declared.task.Birth.{Birth}
 use Rattle.ci_base.specs.declared.task.Delivery.{Delivery}
 use Rattle.ci_base.specs.declared.value.Value.TheVariants as values
-use Rattle.ci_tree.specs.declared.project.Project.{Project}
+use Rattle.ci_tree.specs.declared.trace_project.TraceProject.{TraceProject}
 use Rattle.ci_top.specs.Lists.{at_task, set_task}
 
 -- a task that was started
@@ -86,7 +86,7 @@ ended shared task code = record shared {
 }
 
 -- serving a request of a task; a request that no project makes yet has no row
-abbrev pub apply : Project → Shared → ℕ → Request → Option (Served Reply)
+abbrev pub apply : TraceProject → Shared → ℕ → Request → Option (Served Reply)
 apply project shared task (requests.Trace text) = Some (only shared done)
 apply project shared task (requests.End code) = Some (only (ended shared task code) replies.Ends)
 apply project shared task _ = None
@@ -122,7 +122,7 @@ started shared =
     }
 
 -- a task is started from the function of this name with this argument list, or refused
-abbrev pub start : Project → Shared → List ℕ → List ℕ → Served EventReply
+abbrev pub start : TraceProject → Shared → List ℕ → List ℕ → Served EventReply
 start project shared name list =
     if not (str_eq_ignore_ascii_case name project.name) then only shared (refused (negsuc 0) 5)
     else if not (is_empty_list list) then only shared (refused (negsuc 0) 10)
@@ -130,6 +130,6 @@ start project shared name list =
     else started shared
 
 -- serving an event; one that no script has yet has no row
-abbrev pub script : Project → Shared → EventKind → Option (Served EventReply)
+abbrev pub script : TraceProject → Shared → EventKind → Option (Served EventReply)
 script project shared (events.Run name list) = Some (start project shared name list)
 script project shared _ = None

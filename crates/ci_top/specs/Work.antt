@@ -7,7 +7,7 @@ use Rattle.ci_base.specs.declared.entry.Entry.TheVariants as entries
 use Rattle.ci_base.specs.declared.limits.Ending.{Ending}
 use Rattle.ci_base.specs.declared.limits.Ending.TheVariants as endings
 use Rattle.ci_base.specs.declared.list.Loose.{Loose}
-use Rattle.ci_tree.specs.declared.project.Project.{Project}
+use Rattle.ci_tree.specs.declared.trace_project.TraceProject.{TraceProject}
 use Rattle.ci_top.specs.Lists.{at_task}
 use Rattle.ci_top.specs.Meaning.{Configuration, Reaches}
 use Rattle.ci_top.specs.Shared.{Shared, NoneReady, is_live}
@@ -23,7 +23,7 @@ abbrev pub work : List Entry → List Loose → ℕ
 work history loose = sum_by ticks_of history + 100 * length history + sum_by (λ member. member.ticks) loose
 
 -- the task was started, and has made exactly these ticks, more than 0, since its last entry
-pub record FitsOne (project : Project) (world : World) (member : Loose) : Type 0 where
+pub record FitsOne (project : TraceProject) (world : World) (member : Loose) : Type 0 where
   pub some : 0 < member.ticks
   pub from : Configuration
   pub from_is : at_task world.configurations member.task ≡ Some from
@@ -31,7 +31,7 @@ pub record FitsOne (project : Project) (world : World) (member : Loose) : Type 0
   pub reaches : Reaches project from member.ticks to
 
 -- the loose ticks are those of tasks by rising numbers, each by its configuration
-pub record FitsLoose (project : Project) (world : World) (loose : List Loose) : Type 0 where
+pub record FitsLoose (project : TraceProject) (world : World) (loose : List Loose) : Type 0 where
   pub rising : IsStrictlyIncreasing (map (λ member. member.task) loose)
   pub each : AllByRecursion (FitsOne project world) loose
 

@@ -10,7 +10,7 @@ use Rattle.ci_base.specs.declared.reply.Reply.TheVariants as replies
 use Rattle.ci_base.specs.declared.request.Request.{Request}
 use Rattle.ci_base.specs.declared.task.Birth.{Birth}
 use Rattle.ci_base.specs.declared.task.Delivery.{Delivery}
-use Rattle.ci_tree.specs.declared.project.Project.{Project}
+use Rattle.ci_tree.specs.declared.trace_project.TraceProject.{TraceProject}
 use Rattle.ci_top.specs.Lists.{at_task, set_task}
 use Rattle.ci_top.specs.Meaning.{Configuration, opening, asks, resume, Reaches}
 use Rattle.ci_top.specs.Shared.{Shared, Served, IsReady, NoneReady, apply, script}
@@ -21,7 +21,7 @@ pub record World : Type 0 where
   pub configurations : List Configuration
 
 -- the world before the first step: no task, and all events are left
-abbrev pub opening_world : Project → List Event → World
+abbrev pub opening_world : TraceProject → List Event → World
 opening_world project events = record { shared = record { tasks = []; left = events }; configurations = [] }
 
 -- an answer resumes the task that asked; otherwise it stays at its request
@@ -37,19 +37,19 @@ delivered cs (delivery ∷ rest) =
     delivered (option_map_or (λ c. set_task cs delivery.task (resume c delivery.answer)) (at_task cs delivery.task) cs) rest
 
 -- a task that was started has its opening configuration
-abbrev pub with_birth : Project → List Configuration → Option Birth → List Configuration
+abbrev pub with_birth : TraceProject → List Configuration → Option Birth → List Configuration
 with_birth project cs None = cs
 with_birth project cs (Some birth) = cs ++ opening project birth.function birth.args ∷ []
 
 -- the world after a request or an event was served, where the asking task's configuration is settled already
-abbrev pub after : {R : Type 0} → Project → List Configuration → Served R → World
+abbrev pub after : {R : Type 0} → TraceProject → List Configuration → Served R → World
 after project cs served = record {
   shared = served.shared;
   configurations = with_birth project (delivered cs served.deliveries) served.birth;
 }
 
 -- The task can make a step; after exactly these ticks it stands at this request, and it gets this reply.
-pub record Asks (project : Project) (old : World) (task ticks : ℕ) (request : Request) (reply : Reply) (new : World) : Type 0 where
+pub record Asks (project : TraceProject) (old : World) (task ticks : ℕ) (request : Request) (reply : Reply) (new : World) : Type 0 where
   pub ready : IsReady old.shared task
   pub from : Configuration
   pub from_is : at_task old.configurations task ≡ Some from
@@ -62,7 +62,7 @@ pub record Asks (project : Project) (old : World) (task ticks : ℕ) (request : 
   pub new_is : new ≡ after project (set_task old.configurations task (replied at reply)) served
 
 -- The event is the front one, its time has come, and it gets this reply; it is then no longer left.
-pub record Happens (project : Project) (old : World) (event : Event) (reply : EventReply) (new : World) : Type 0 where
+pub record Happens (project : TraceProject) (old : World) (event : Event) (reply : EventReply) (new : World) : Type 0 where
   pub rest : List Event
   pub front : old.shared.left ≡ event ∷ rest
   pub due : IsTrue event.soon ⊎ NoneReady old.shared
@@ -72,15 +72,15 @@ pub record Happens (project : Project) (old : World) (event : Event) (reply : Ev
   pub new_is : new ≡ after project old.configurations (record served { shared = record served.shared { left = rest } })
 
 -- an entry is a step of the machine from one world to the next
-abbrev pub Step : Project → World → Entry → World → Type 0
+abbrev pub Step : TraceProject → World → Entry → World → Type 0
 Step project old (entries.Ask task ticks request reply) new = Asks project old task ticks request reply new
 Step project old (entries.Script event reply) new = Happens project old event reply new
 
 -- the entries, in order, are steps from one world to another
-abbrev pub Steps : Project → World → List Entry → World → Type 0
+abbrev pub Steps : TraceProject → World → List Entry → World → Type 0
 Steps project old [] new = new ≡ old
 Steps project old (entry ∷ history) new = (mid : World) × Step project old entry mid × Steps project mid history new
 
 -- the history is a run of the machine, and this is the world after it
-abbrev pub Run : Project → List Event → List Entry → World → Type 0
+abbrev pub Run : TraceProject → List Event → List Entry → World → Type 0
 Run project events history world = Steps project (opening_world project events) history world

@@ -1,58 +1,109 @@
 //! Doing an order: what becomes of it, before anything is told.
-ghost use Rattle.std.specs.Prelude.{◌≡◌, ◌≤◌, length};
-ghost use Rattle.ci_top.specs.Decisions.{Decided, OfSource};
+ghost use Rattle.std.specs.Prelude.{◌≡◌, ◌<◌, ◌≤◌, length, map, All};
+ghost use Rattle.ci_source.specs.Telling.{IsRefusedAs};
+ghost use Rattle.ci_tree.specs.Seen.{items_of};
+ghost use Rattle.ci_top.specs.Asked.{words_at};
+ghost use Rattle.ci_top.specs.Decisions.{Decided, OfRun, OfSources, OfTrees};
 
-use crate::decision::{Decision, FileFault};
-use crate::defaults::SOURCE_LIMIT;
-use crate::order::read_words;
+use crate::accept::accept;
+use crate::decision::Decision;
+use crate::fetch::{fetch_all, name_of};
 use crate::run::run;
 use ci_base::{Bytes, place_of};
-use ci_outside::{Fetch, Shelf};
-use ci_source::{SourceFault, read_source};
+use ci_outside::Shelf;
+use ci_source::{Fault, FormFault, SourceFault, first_form, read_sources};
+use ci_tree::FileTrees;
+use ci_words::Command;
 use std::alloc::Global;
 
-/// Reads the words, fetches the file that they name, and runs it. The first refusal ends the order.
+/// Reads the words, fetches the files that they name, reads these, and runs them or says that they compile. The first refusal ends
+/// the order.
 pub(crate) fn decide<'w, S: Shelf>(alloc: Global, words: &'w [Bytes], shelf: &mut S) -> Decision<'w>
     ensures decided { Decided words.now (S.files shelf.old) (S.faults shelf.old) (S.faults shelf.new) result }
     ensures kept { S.files shelf.new ≡ S.files shelf.old }
 {
-    let name = match read_words(words) {
-        Ok(name) => name,
-        Err(fault) => return Decision::WordsRefused(fault),
+    let order = match accept(words) {
+        Ok(order) => order,
+        Err(decision) => return decision,
     };
-    match shelf.fetch(alloc, name, SOURCE_LIMIT) {
-        Ok(source) => run_source(alloc, name, source.bytes()),
-        Err(Fetch::Absent) => not_fetched(FileFault::Absent, name),
-        Err(Fetch::Failed) => not_fetched(FileFault::ReadFault, name),
-        Err(Fetch::TooLong) => not_fetched(FileFault::TooLong, name),
-        Err(Fetch::Memory) => Decision::NoMemory,
+    let places = order.files.indexes();
+    match fetch_all(alloc, words, places, shelf) {
+        Ok(contents) => read_all(alloc, order.command, words, places, contents.as_slice()),
+        Err(decision) => decision,
     }
 }
 
-/// The one file, of this name, isn't fetched.
-fn not_fetched(fault: FileFault, name: &Bytes) -> Decision<'_>
-    ensures { result ≡ Decision.NotFetched fault 1 name.entry }
+/// Reads the sources, and does the command over them. The words at these indexes are the names of their files.
+fn read_all<'w>(
+    alloc: Global,
+    command: Command,
+    words: &'w [Bytes],
+    places: &[u32],
+    sources: &[Bytes],
+) -> Decision<'w>
+    requires places { All (λ at. at < length words.now) places.now }
+    requires some { 0 < length places.now }
+    requires same { length sources.now ≡ length places.now }
+    requires few { length sources.now ≤ 64 }
+    requires within { All (λ source. length source ≤ 262144) sources.now }
+    ensures { OfSources command (words_at words.now places.now) sources.now result }
 {
-    let number = 1;
-    Decision::NotFetched {
-        fault,
-        number,
-        name,
+    match read_sources(alloc, sources) {
+        Ok(compiled) => do_command(alloc, command, name_of(words, places, 0), &compiled.trees),
+        Err(
+            SourceFault::Refused {
+                file,
+                fault,
+                offset,
+            },
+        ) => source_refused(words, places, sources, file as usize, fault, offset),
+        Err(SourceFault::Memory) => Decision::NoMemory,
     }
 }
 
-/// Reads the source in the file of this name, and runs its project.
-fn run_source<'w>(alloc: Global, name: &'w Bytes, source: &[u8]) -> Decision<'w>
-    requires { length source.now ≤ 262144 }
-    ensures { OfSource name.now source.now result }
+/// What becomes of sources with this first fault, in the file of this number, counted from 0, and at this offset.
+fn source_refused<'w>(
+    words: &'w [Bytes],
+    places: &[u32],
+    sources: &[Bytes],
+    file: usize,
+    fault: Fault,
+    offset: u32,
+) -> Decision<'w>
+    requires places { All (λ at. at < length words.now) places.now }
+    requires same { length sources.now ≡ length places.now }
+    requires within { All (λ source. length source ≤ 262144) sources.now }
+    requires refused { IsRefusedAs sources.now (SourceFault.Refused file fault offset) }
+    ensures { (command : Command) → OfSources command (words_at words.now places.now) sources.now result }
 {
-    let project = match read_source(alloc, source) {
+    let name = name_of(words, places, file);
+    let place = place_of(sources[file].bytes(), offset);
+    Decision::SourceRefused { name, fault, place }
+}
+
+/// Says that the trees were checked, or runs them. The first file has this name.
+fn do_command<'w>(
+    alloc: Global,
+    command: Command,
+    name: &'w Bytes,
+    trees: &FileTrees,
+) -> Decision<'w>
+    ensures { OfTrees command name.now (map items_of trees.now) result }
+{
+    match command {
+        Command::Check => Decision::Checked,
+        _ => run_trees(alloc, name, trees),
+    }
+}
+
+/// Runs the trees, where they are of the form that can be run. The first file has this name.
+fn run_trees<'w>(alloc: Global, name: &'w Bytes, trees: &FileTrees) -> Decision<'w>
+    ensures { OfRun name.now (map items_of trees.now) result }
+{
+    let project = match first_form(alloc, trees) {
         Ok(project) => project,
-        Err(SourceFault::Refused { fault, offset }) => {
-            let place = place_of(source, offset);
-            return Decision::SourceRefused { name, fault, place };
-        }
-        Err(SourceFault::Memory) => return Decision::NoMemory,
+        Err(FormFault::NotBuilt) => return Decision::FormRefused(name),
+        Err(FormFault::Memory) => return Decision::NoMemory,
     };
     match run(alloc, &project) {
         Ok(ran) => Decision::Ran(ran),

@@ -2,13 +2,7 @@
 use crate::run::Ran;
 use ci_base::{Bytes, Position};
 use ci_source::Fault;
-
-/// Why the words are refused.
-#[derive(Clone, Copy, Debug, PartialEq, Eq)]
-pub enum WordsFault {
-    /// The order, or an option of it, can't be done yet. It is told at the word with this index, counted from 0.
-    NotBuilt { index: u32 },
-}
+use ci_words::WordFault;
 
 /// Why a file isn't fetched.
 #[derive(Clone, Copy, Debug, PartialEq, Eq)]
@@ -24,19 +18,26 @@ pub enum FileFault {
 /// What becomes of an order, before it is told.
 #[derive(Debug, Drop)]
 pub(crate) enum Decision<'w> {
-    WordsRefused(WordsFault),
+    /// The words have this fault, or ask for worker threads.
+    WordsRefused(WordFault),
+    /// The order can't be done yet.
+    OrderNotBuilt,
     /// The file with this number, from 1, and this name isn't fetched.
     NotFetched {
         fault: FileFault,
         number: u32,
         name: &'w Bytes,
     },
-    /// The source in the file of this name has this first fault, told at this place.
+    /// The sources have this first fault, told at this place of the file of this name.
     SourceRefused {
         name: &'w Bytes,
         fault: Fault,
         place: Position,
     },
+    /// The sources compile, and aren't of the form that can be run. The first file has this name.
+    FormRefused(&'w Bytes),
+    /// The sources were checked, and compile.
+    Checked,
     NoMemory,
     Ran(Ran),
 }

@@ -1,12 +1,13 @@
-//! The top call: from words and files to a run and its report.
+//! The top call: from words and files to a run and its report, or to what is told of them.
 #![tactic(auto)]
 
+mod accept;
 mod decide;
 mod decision;
 mod defaults;
+mod fetch;
 pub mod history;
 pub mod laws;
-mod order;
 mod outcome;
 mod report;
 mod run;
@@ -15,6 +16,6 @@ mod tell;
 mod tests;
 mod top;
 
-pub use decision::{FileFault, WordsFault};
+pub use decision::FileFault;
 pub use outcome::Outcome;
 pub use top::{cicode, cicode_alone};

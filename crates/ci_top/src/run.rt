@@ -9,7 +9,7 @@ use crate::history::{EndState, History, TaskEnd, TaskEndList};
 use ci_base::{
     Answer, Ending, Entry, Event, EventKind, EventReply, OutOfMemory, Reply, Request, Status, Text,
 };
-use ci_tree::Project;
+use ci_tree::TraceProject;
 use std::alloc::Global;
 
 /// A run from its beginning to its end.
@@ -20,7 +20,7 @@ pub struct Ran {
 }
 
 /// Runs the project. Once it has begun, no memory is taken.
-pub(crate) fn run(alloc: Global, project: &Project) -> Result<Ran, OutOfMemory>
+pub(crate) fn run(alloc: Global, project: &TraceProject) -> Result<Ran, OutOfMemory>
     requires { CanRun project.now }
     ensures { IfOk result (RanWhole project.now) }
 {

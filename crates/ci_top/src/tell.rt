@@ -4,10 +4,14 @@ ghost use Rattle.ci_outside.specs.Sink.{Puts};
 ghost use Rattle.ci_top.specs.Answers.{Delivers, ending_status, fault_status, fault_text, told_text, words_text};
 ghost use Rattle.ci_top.specs.Decisions.{decision_text, decision_status, IsTold};
 
-use crate::decision::{Decision, FileFault, WordsFault};
+use crate::decision::{Decision, FileFault};
 use ci_base::{Ending, Line, Position, put_u32};
 use ci_outside::{Failed, Sink, put_all, put_three, put_two};
 use ci_source::{Fault, fault_text as source_fault_text};
+use ci_words::{WordFault, fault_text as word_fault_text};
+
+/// Where a source begins.
+const START: Position = Position { line: 1, column: 1 };
 
 /// Puts the text of the decision, and gives the exit status: that of the decision, or 5 where a put failed.
 pub(crate) fn deliver<K: Sink>(decision: &Decision, out: &mut K) -> u8
@@ -27,6 +31,7 @@ fn put_decision<K: Sink>(decision: &Decision, out: &mut K) -> Result<(), Failed>
 {
     match decision {
         Decision::WordsRefused(fault) => put_all(out, words_line(*fault).bytes()),
+        Decision::OrderNotBuilt => put_all(out, b"words 0: form not built\n"),
         Decision::NotFetched {
             fault,
             number,
@@ -40,20 +45,27 @@ fn put_decision<K: Sink>(decision: &Decision, out: &mut K) -> Result<(), Failed>
         Decision::SourceRefused { name, fault, place } => {
             put_two(out, name.bytes(), told_at(*fault, place).bytes())
         }
+        Decision::FormRefused(name) => put_two(
+            out,
+            name.bytes(),
+            told_at(Fault::NotBuilt, &START).bytes(),
+        ),
+        Decision::Checked => put_all(out, b"ok\n"),
         Decision::NoMemory => put_all(out, b"out of memory\n"),
         Decision::Ran(ran) => ran.history.write_report(&ran.end, out),
     }
 }
 
 /// The line for refused words.
-fn words_line(fault: WordsFault) -> Line
+fn words_line(fault: WordFault) -> Line
     ensures { result ≡ words_text fault }
 {
-    let WordsFault::NotBuilt { index } = fault;
     let mut line = Line::empty();
     line.add(b"words ");
-    put_u32(index, &mut line);
-    line.add(b": form not built\n");
+    put_u32(fault.index, &mut line);
+    line.add(b": ");
+    line.add(word_fault_text(fault.number).as_bytes());
+    line.add(b"\n");
     line
 }
 
@@ -102,9 +114,10 @@ fn status_of(decision: &Decision) -> u8
     ensures { result ≡ decision_status decision.now }
 {
     match decision {
-        Decision::WordsRefused(_) => 2,
+        Decision::WordsRefused(_) | Decision::OrderNotBuilt => 2,
         Decision::NotFetched { fault, .. } => fault_number(*fault),
-        Decision::SourceRefused { .. } => 1,
+        Decision::SourceRefused { .. } | Decision::FormRefused(_) => 1,
+        Decision::Checked => 0,
         Decision::NoMemory => 6,
         Decision::Ran(ran) => ending_number(ran.end.ending),
     }

@@ -1,9 +1,10 @@
 //! The top call.
-ghost use Rattle.std.specs.Prelude.{◌≡◌, ◌⊎◌, IsErr};
+ghost use Rattle.std.specs.Prelude.{◌≡◌, ◌⊎◌, Some};
 ghost use Rattle.ci_outside.specs.Causes.{Rose};
+ghost use Rattle.ci_words.specs.declared.command.Command.TheVariants as commands;
 ghost use Rattle.ci_top.specs.Answers.{Answers, kept_of};
-ghost use Rattle.ci_top.specs.Order.{order};
-ghost use Rattle.ci_top.specs.Plain.{IsReported, KeepsNothing};
+ghost use Rattle.ci_top.specs.Asked.{AreRefused, command_of};
+ghost use Rattle.ci_top.specs.Plain.{CanCheck, CanRunAll, IsApproved, IsReported, IsRunStatus, KeepsNothing};
 ghost use Rattle.ci_top.specs.Decisions.{decision_kept};
 
 use crate::decide::decide;
@@ -13,6 +14,7 @@ use crate::outcome::Outcome;
 use crate::tell::deliver;
 use ci_base::{Bytes, Ending, LooseList};
 use ci_outside::{Gate, Shelf, Sink};
+use ci_source::one_meaning;
 use std::alloc::Global;
 
 /// Does the order that the words give, without worker threads: fetches its files from the shelf, puts its text into the
@@ -28,21 +30,30 @@ pub fn cicode_alone<S: Shelf, K: Sink>(
     ensures answer { Answers S.files S.faults K.bytes K.faults words.now shelf.old shelf.new out.old out.new result }
     ensures contents { S.files shelf.new ≡ S.files shelf.old }
 
-    // Status 0 tells a run of the preemptive machine that has finished, and its report was put.
-    ensures reported { result.status ≡ 0 → IsReported words.now (S.files shelf.old) (K.bytes out.old) (K.bytes out.new) result }
+    // Status 0 of `run` tells a run of the preemptive machine that has finished, and its report was put. Status 0 of `check` tells
+    // that all files were fetched and their sources compile. No other command has it.
+    ensures reported { result.status ≡ 0 → command_of words.now ≡ Some commands.Run → IsReported words.now (S.files shelf.old) (K.bytes out.old) (K.bytes out.new) result }
+    ensures checked { result.status ≡ 0 → command_of words.now ≡ Some commands.Check → IsApproved words.now (S.files shelf.old) (K.bytes out.old) (K.bytes out.new) }
+    ensures done { result.status ≡ 0 → (command_of words.now ≡ Some commands.Run) ⊎ (command_of words.now ≡ Some commands.Check) }
 
     // No fault is made up.
     ensures write_fault { result.status ≡ 5 → Rose (K.faults out.old) (K.faults out.new) }
     ensures read_fault { result.status ≡ 15 → Rose (S.faults shelf.old) (S.faults shelf.new) }
 
-    // The words are refused exactly where they are not in order, unless a put fails.
-    ensures words { result.status ≡ 2 → IsErr (order words.now) }
-    ensures words_always { IsErr (order words.now) → (result.status ≡ 2) ⊎ (result.status ≡ 5) }
+    // Status 2 comes exactly where the words have a fault, name workers above 0 or ask for what isn't built, unless a put fails.
+    ensures words { result.status ≡ 2 → AreRefused words.now }
+    ensures words_always { AreRefused words.now → (result.status ≡ 2) ⊎ (result.status ≡ 5) }
+
+    // Files that are there and compile are checked or run, where no call fails outside and there is memory.
+    ensures check_answers { CanCheck words.now (S.files shelf.old) → (Rose (S.faults shelf.old) (S.faults shelf.new) → ⊥) → (Rose (K.faults out.old) (K.faults out.new) → ⊥) → (result.status ≡ 0) ⊎ (result.status ≡ 6) }
+    ensures run_answers { CanRunAll words.now (S.files shelf.old) → (Rose (S.faults shelf.old) (S.faults shelf.new) → ⊥) → (Rose (K.faults out.old) (K.faults out.new) → ⊥) → IsRunStatus result.status ⊎ (result.status ≡ 6) }
 
     // A run that has begun is never answered by want of memory, and without a run nothing is kept.
     ensures memory { result.status ≡ 6 → result.ending ≡ Ending.NotRun }
     ensures refused { result.ending ≡ Ending.NotRun → KeepsNothing result }
 {
+    // the law on which `check_answers` and `run_answers` rest
+    one_meaning();
     answer(alloc, words, shelf, out)
 }
 
@@ -58,16 +69,23 @@ pub fn cicode<S: Shelf, K: Sink, G: Gate + Sync>(
     ensures answer { Answers S.files S.faults K.bytes K.faults words.now shelf.old shelf.new out.old out.new result }
     ensures contents { S.files shelf.new ≡ S.files shelf.old }
 
-    // Status 0 tells a run of the preemptive machine that has finished, and its report was put.
-    ensures reported { result.status ≡ 0 → IsReported words.now (S.files shelf.old) (K.bytes out.old) (K.bytes out.new) result }
+    // Status 0 of `run` tells a run of the preemptive machine that has finished, and its report was put. Status 0 of `check` tells
+    // that all files were fetched and their sources compile. No other command has it.
+    ensures reported { result.status ≡ 0 → command_of words.now ≡ Some commands.Run → IsReported words.now (S.files shelf.old) (K.bytes out.old) (K.bytes out.new) result }
+    ensures checked { result.status ≡ 0 → command_of words.now ≡ Some commands.Check → IsApproved words.now (S.files shelf.old) (K.bytes out.old) (K.bytes out.new) }
+    ensures done { result.status ≡ 0 → (command_of words.now ≡ Some commands.Run) ⊎ (command_of words.now ≡ Some commands.Check) }
 
     // No fault is made up.
     ensures write_fault { result.status ≡ 5 → Rose (K.faults out.old) (K.faults out.new) }
     ensures read_fault { result.status ≡ 15 → Rose (S.faults shelf.old) (S.faults shelf.new) }
 
-    // The words are refused exactly where they are not in order, unless a put fails.
-    ensures words { result.status ≡ 2 → IsErr (order words.now) }
-    ensures words_always { IsErr (order words.now) → (result.status ≡ 2) ⊎ (result.status ≡ 5) }
+    // Status 2 comes exactly where the words have a fault, name workers above 0 or ask for what isn't built, unless a put fails.
+    ensures words { result.status ≡ 2 → AreRefused words.now }
+    ensures words_always { AreRefused words.now → (result.status ≡ 2) ⊎ (result.status ≡ 5) }
+
+    // Files that are there and compile are checked or run, where no call fails outside and there is memory.
+    ensures check_answers { CanCheck words.now (S.files shelf.old) → (Rose (S.faults shelf.old) (S.faults shelf.new) → ⊥) → (Rose (K.faults out.old) (K.faults out.new) → ⊥) → (result.status ≡ 0) ⊎ (result.status ≡ 6) }
+    ensures run_answers { CanRunAll words.now (S.files shelf.old) → (Rose (S.faults shelf.old) (S.faults shelf.new) → ⊥) → (Rose (K.faults out.old) (K.faults out.new) → ⊥) → IsRunStatus result.status ⊎ (result.status ≡ 6) }
 
     // A run that has begun is never answered by want of memory, and without a run nothing is kept.
     ensures memory { result.status ≡ 6 → result.ending ≡ Ending.NotRun }

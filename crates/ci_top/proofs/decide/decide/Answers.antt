@@ -1,26 +1,27 @@
-use Rattle.std.proofs.Common.{refl, ap, Err}
-use Rattle.ci_top.specs.Answers.{words_refused}
-use Rattle.ci_top.proofs.Deciding.{decided-not_fetched, decided-no_memory, decided-source}
+use Rattle.std.proofs.Common.{◌∙◌, ap, arith, length}
+use Rattle.ci_top.proofs.Deciding.{decided-words, decided-stopped, decided-sources}
+use Rattle.ci_top.proofs.Fetching.{Fetched-length, Fetched-within, length-map_words}
 use Rattle.ci_top.proofs.decide.decide.Goals as goal
 
 pub returns-in-Err-clause-decided : goal.returns-in-Err-clause-decided
-returns-in-Err-clause-decided g c = record { cause = words_refused _; holds = (refl, c.in-Err.ensures.err); text_is = refl; status_is = refl; told = tt }
+returns-in-Err-clause-decided g c = decided-words _ _ _ _ c.in-Err.decision c.in-Err.ensures.refused
 
-pub returns-in-Ok-fetch-clause-decided : goal.returns-in-Ok-fetch-clause-decided
-returns-in-Ok-fetch-clause-decided g c =
-    decided-source _ _ _ _ _ _ _ c.in-Ok.ensures.ok c.in-Ok-fetch.ensures.content c.in-Ok-fetch.ensures.within (rw c.bytes.ensures at c.run_source.ensures)
+pub read_all-requires-clause-same : goal.read_all-requires-clause-same
+read_all-requires-clause-same g c =
+    ap length c.as_slice.ensures.value ∙ Fetched-length _ _ _ c.in-Ok-fetch_all.ensures.fetched ∙ length-map_words _ c.indexes-places.result.now
 
-pub returns-in-Err-Absent-clause-decided : goal.returns-in-Err-Absent-clause-decided
-returns-in-Err-Absent-clause-decided g c =
-    rw c.not_fetched.ensures (decided-not_fetched _ _ _ _ _ _ c.in-Ok.ensures.ok (c.in-Err-Absent.ensures.absent (ap Err c.in-Err-Absent.field-0-is)))
+pub read_all-requires-clause-few : goal.read_all-requires-clause-few
+read_all-requires-clause-few g c =
+    omega (arith, c.indexes-places.ensures.within, ap length c.as_slice.ensures.value, Fetched-length _ _ _ c.in-Ok-fetch_all.ensures.fetched, length-map_words c.args.words.now c.indexes-places.result.now)
 
-pub returns-in-Err-Failed-clause-decided : goal.returns-in-Err-Failed-clause-decided
-returns-in-Err-Failed-clause-decided g c =
-    rw c.not_fetched-in-Err-Failed.ensures (decided-not_fetched _ _ _ _ _ _ c.in-Ok.ensures.ok (c.in-Err-Failed.ensures.failed (ap Err c.in-Err-Failed.field-0-is)))
+pub read_all-requires-clause-within : goal.read_all-requires-clause-within
+read_all-requires-clause-within g c = rw c.as_slice.ensures.value (Fetched-within _ _ _ c.in-Ok-fetch_all.ensures.fetched)
 
-pub returns-in-Err-TooLong-clause-decided : goal.returns-in-Err-TooLong-clause-decided
-returns-in-Err-TooLong-clause-decided g c =
-    rw c.not_fetched-in-Err-TooLong.ensures (decided-not_fetched _ _ _ _ _ _ c.in-Ok.ensures.ok (c.in-Err-TooLong.ensures.too_long (ap Err c.in-Err-TooLong.field-0-is)))
+pub returns-in-Ok-fetch_all-clause-decided : goal.returns-in-Ok-fetch_all-clause-decided
+returns-in-Ok-fetch_all-clause-decided g c =
+    decided-sources _ _ _ _ c.in-Ok.order c.in-Ok-fetch_all.contents.items c.read_all.result c.in-Ok.ensures.asked
+    (rw c.indexes-places.ensures.value at c.in-Ok-fetch_all.ensures.fetched) (rw (c.indexes-places.ensures.value, c.as_slice.ensures.value) at c.read_all.ensures)
 
-pub returns-in-Err-Memory-clause-decided : goal.returns-in-Err-Memory-clause-decided
-returns-in-Err-Memory-clause-decided g c = decided-no_memory _ _ _ _ _ c.in-Ok.ensures.ok
+pub returns-in-Err-fetch_all-clause-decided : goal.returns-in-Err-fetch_all-clause-decided
+returns-in-Err-fetch_all-clause-decided g c =
+    decided-stopped _ _ _ _ c.in-Ok.order c.in-Err-fetch_all.decision c.in-Ok.ensures.asked (rw c.indexes-places.ensures.value at c.in-Err-fetch_all.ensures.stopped)

@@ -1,0 +1,66 @@
+//! Fetching the files of an order.
+ghost use Rattle.std.specs.Prelude.{◌≡◌, ◌<◌, ◌≤◌, ◌+◌, length, map, All, IfOk, IfErr, Some, slice_get};
+ghost use Rattle.ci_top.specs.Answers.{Fetched};
+ghost use Rattle.ci_top.specs.Asked.{words_at};
+ghost use Rattle.ci_top.specs.Decisions.{StopsFetching, decision_of_fetch};
+
+use crate::decision::{Decision, FileFault};
+use crate::defaults::SOURCE_LIMIT;
+use ci_base::Bytes;
+use ci_outside::{Fetch, Shelf};
+use std::alloc::Global;
+
+/// The contents of the files whose names are the words at these indexes, fetched in order; or what becomes of the order, where
+/// one isn't fetched.
+pub(crate) fn fetch_all<'w, S: Shelf>(
+    alloc: Global,
+    words: &'w [Bytes],
+    places: &[u32],
+    shelf: &mut S,
+) -> Result<Vec<Bytes>, Decision<'w>>
+    requires places { All (λ at. at < length words.now) places.now }
+    requires few { length places.now ≤ 64 }
+    ensures fetched { IfOk result (λ contents. Fetched (S.files shelf.old) (words_at words.now places.now) contents.items) }
+    ensures stopped { IfErr result (λ decision. StopsFetching (S.files shelf.old) (S.faults shelf.old) (S.faults shelf.new) (words_at words.now places.now) decision) }
+    ensures kept { S.files shelf.new ≡ S.files shelf.old }
+{
+    let mut contents = Vec::new(alloc);
+    for file in 0..places.len() {
+        let name = name_of(words, places, file);
+        match shelf.fetch(alloc, name, SOURCE_LIMIT) {
+            Ok(content) => {
+                let Ok(()) = contents.push(content) else {
+                    return Err(Decision::NoMemory);
+                };
+            }
+            Err(fetch) => return Err(not_fetched(fetch, file as u32 + 1, name)),
+        }
+    }
+    Ok(contents)
+}
+
+/// The name of the file of this number, counted from 0: the word at its index.
+pub(crate) fn name_of<'w>(words: &'w [Bytes], places: &[u32], file: usize) -> &'w Bytes
+    requires places { All (λ at. at < length words.now) places.now }
+    requires file { file < length places.now }
+    ensures { slice_get (words_at words.now places.now) file ≡ Some result.now }
+{
+    &words[places[file] as usize]
+}
+
+/// What becomes of an order whose file of this number, counted from 1, and this name isn't fetched.
+fn not_fetched(fetch: Fetch, number: u32, name: &Bytes) -> Decision<'_>
+    ensures { result ≡ decision_of_fetch fetch number name.entry }
+{
+    let fault = match fetch {
+        Fetch::Absent => FileFault::Absent,
+        Fetch::Failed => FileFault::ReadFault,
+        Fetch::TooLong => FileFault::TooLong,
+        Fetch::Memory => return Decision::NoMemory,
+    };
+    Decision::NotFetched {
+        fault,
+        number,
+        name,
+    }
+}
