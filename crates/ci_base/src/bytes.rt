@@ -4,13 +4,15 @@ ghost use Rattle.std.specs.Cmp.{partial_equiv_from_equiv};
 ghost use Rattle.std.specs.Cmp.Lexicographic.{pointwise, nat_list_eq_equiv};
 
 use crate::OutOfMemory;
+use smallvec::SmallVec;
 use std::alloc::Global;
 use std::marker::Model;
 
-/// A byte string of any length. Contracts see the list of its bytes.
+/// A byte string of any length. Contracts see the list of its bytes. One of at most 16 bytes, as most names are, takes no memory
+/// beside the value.
 #[derive(Debug, Drop)]
 pub struct Bytes {
-    kept: Vec<u8>,
+    kept: SmallVec<u8, 16>,
 }
 
 impl Model for Bytes {
@@ -41,7 +43,7 @@ impl Bytes {
         ensures { result ≡ [] }
     {
         Bytes {
-            kept: Vec::new(alloc),
+            kept: SmallVec::new(alloc),
         }
     }
 
@@ -49,7 +51,7 @@ impl Bytes {
     pub fn copy(alloc: Global, from: &[u8]) -> Result<Bytes, OutOfMemory>
         ensures { IfOk result (λ bytes. bytes ≡ from.now) }
     {
-        match Vec::from_slice(alloc, from) {
+        match SmallVec::from_slice(alloc, from) {
             Ok(kept) => Ok(Bytes { kept }),
             Err(_) => Err(OutOfMemory),
         }
