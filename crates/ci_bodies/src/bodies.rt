@@ -23,7 +23,7 @@ use crate::simple::plain;
 use ci_base::{Kind, OutOfMemory};
 use ci_names::Fault;
 use ci_scopes::Scope;
-use ci_tree::{Clause, Stmt, bound};
+use ci_tree::{Clause, Stmt, bound, list_with_room};
 use sqlite_items::Items;
 use std::alloc::Global;
 
@@ -39,7 +39,7 @@ pub fn body<'a>(
     ensures found { OnOk result (found.new ≡ noted found.old (block_faults (scope_of scope.old) (block_of body.now))) }
     ensures scope { OnOk result (scope_of scope.new ≡ with_locals (scope_of scope.old) (locals_in_block (block_of body.now))) }
 {
-    let mut made = Items::new(alloc);
+    let mut made = list_with_room(alloc, body.len())?;
     for stmt in body {
         statement(alloc, scope, found, stmt, &mut made)?;
     }
@@ -230,7 +230,7 @@ fn clauses<'a>(
     ensures found { OnOk result (found.new ≡ noted found.old (clauses_faults (scope_of scope.old) subject (clauses_of clauses.now))) }
     ensures scope { OnOk result (scope_of scope.new ≡ with_locals (scope_of scope.old) (locals_in_clauses (clauses_of clauses.now))) }
 {
-    let mut made = Items::new(alloc);
+    let mut made = list_with_room(alloc, clauses.len())?;
     for one in clauses {
         let bound = clause(alloc, scope, found, subject, one)?;
         push(&mut made, bound)?;

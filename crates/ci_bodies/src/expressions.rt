@@ -29,7 +29,7 @@ use crate::que_read::called_with;
 use ci_base::{Bytes, Kind, OutOfMemory};
 use ci_names::{BindKind, Fault};
 use ci_scopes::{Scope, Taken};
-use ci_tree::{Expr, ExprKind, Link, Operator, bound};
+use ci_tree::{Expr, ExprKind, Link, Operator, bound, list_with_room};
 use sqlite_items::Items;
 use std::alloc::Global;
 
@@ -215,7 +215,7 @@ fn links(
     ensures kind { IfOk result (λ x. x.1 ≡ links_kind (scope_of scope.now) left (links_of rest.now)) }
     ensures found { OnOk result (found.new ≡ noted found.old (links_faults (scope_of scope.now) left (links_of rest.now))) }
 {
-    let mut links = Items::new(alloc);
+    let mut links = list_with_room(alloc, rest.len())?;
     let mut kind = left;
     for member in rest {
         let (one, behind) = link(alloc, scope, found, kind, member)?;
@@ -330,7 +330,7 @@ pub fn arguments(
     ensures fit { IfOk result (λ x. x.1 ≡ are_taken (scope_of scope.now) (map taken_of takes.now) (exprs_of args.now)) }
     ensures found { OnOk result (found.new ≡ noted found.old (args_faults (scope_of scope.now) (map taken_of takes.now) (exprs_of args.now))) }
 {
-    let mut bound = Items::new(alloc);
+    let mut bound = list_with_room(alloc, args.len())?;
     let mut left = takes;
     let mut fit = true;
     for arg in args {

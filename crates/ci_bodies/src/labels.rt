@@ -13,7 +13,7 @@ use crate::simple::alike;
 use ci_base::{Kind, OutOfMemory};
 use ci_names::Fault;
 use ci_scopes::Scope;
-use ci_tree::{Expr, Label, bound};
+use ci_tree::{Expr, Label, bound, list_with_room};
 use sqlite_items::Items;
 use std::alloc::Global;
 
@@ -77,7 +77,7 @@ pub fn labels(
     ensures tree { IfOk result (λ x. map bound.label_of x ≡ map (bound_label (scope_of scope.now)) (map label_of labels.now)) }
     ensures found { OnOk result (found.new ≡ noted found.old (labels_faults (scope_of scope.now) subject (map label_of labels.now))) }
 {
-    let mut made = Items::new(alloc);
+    let mut made = list_with_room(alloc, labels.len())?;
     for one in labels {
         let bound = label(alloc, scope, found, subject, one)?;
         push(&mut made, bound)?;

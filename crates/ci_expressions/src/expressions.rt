@@ -11,7 +11,7 @@ use crate::cursor::{Cursor, below, expect_sign, hashes_at, next};
 use crate::fault::ParseFault;
 use crate::operators::{Joint, joint_in};
 use ci_base::Bytes;
-use ci_tree::{Expr, Keyword, Link, Sign, TokenKind};
+use ci_tree::{Expr, Keyword, Link, Sign, TokenKind, list_with_room};
 use sqlite_items::{Boxed, Items};
 use std::alloc::Global;
 
@@ -98,7 +98,7 @@ fn links(
     requires { group ≤ 7 }
     ensures { Gives (λ x. (map link_of x.0, x.1.at, kinds x.1.left.now)) result (reading.gather (reading.link_at (reading.level_on (reading.unary free) group) group) (length (kinds from.entry.left.now)) from.entry.at (kinds from.entry.left.now)) }
 {
-    let mut links = Items::new(alloc);
+    let mut links = list_with_room(alloc, 1)?;
     let mut here = from;
     for _ in 0..from.left.len() {
         let Some((link, behind)) = one_link(alloc, free, group, here)? else {
@@ -284,7 +284,7 @@ fn some_arguments(
 ) -> Result<(Items<Expr>, Cursor), ParseFault>
     ensures { Gives (λ x. (map expr_of x.0, x.1.at, kinds x.1.left.now)) result (reading.members (reading.level_on (reading.unary free) 8) from.entry.at (kinds from.entry.left.now)) }
 {
-    let mut args = Items::new(alloc);
+    let mut args = list_with_room(alloc, 1)?;
     let (first, behind) = level(alloc, free, 8, from)?;
     args.push(first)?;
     let mut here = behind;

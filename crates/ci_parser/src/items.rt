@@ -10,7 +10,7 @@ use ci_expressions::{
     Cursor, ParseFault, begins_name, begins_type, expect_keyword, expect_sign, name_at, next,
     type_at, type_of,
 };
-use ci_tree::{Item, Keyword, Sign, Token, TokenKind, TypeAt};
+use ci_tree::{Item, Keyword, Sign, Token, TokenKind, TypeAt, list_with_room};
 use sqlite_items::Items;
 use std::alloc::Global;
 
@@ -132,7 +132,7 @@ fn function(
 {
     let behind = expect_keyword(here, Keyword::Function)?;
     let (item, after) = function_end(alloc, free, private, gives, behind)?;
-    let mut items = Items::new(alloc);
+    let mut items = list_with_room(alloc, 1)?;
     items.push(item)?;
     Ok((items, after))
 }

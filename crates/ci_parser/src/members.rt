@@ -7,7 +7,7 @@ ghost use Rattle.ci_parser.specs.Reading as reading;
 use crate::labels::{label, local, other_label, other_local};
 use crate::variables::{other_parameter, other_variable, parameter, variable};
 use ci_expressions::{Cursor, ParseFault, begins_type, expect_sign};
-use ci_tree::{Item, Label, LocalAt, Param, Sign, TypeAt};
+use ci_tree::{Item, Label, LocalAt, Param, Sign, TypeAt, list_with_room};
 use sqlite_items::Items;
 use std::alloc::Global;
 
@@ -19,7 +19,7 @@ pub fn locals(
 ) -> Result<(Items<LocalAt>, Cursor), ParseFault>
     ensures { Gives (λ x. (map local_of x.0, x.1.at, kinds x.1.left.now)) result (reading.members (reading.local (reading.expression free)) from.entry.at (kinds from.entry.left.now)) }
 {
-    let mut locals = Items::new(alloc);
+    let mut locals = list_with_room(alloc, 1)?;
     let (first, behind) = local(alloc, free, from)?;
     locals.push(first)?;
     let mut here = behind;
@@ -37,7 +37,7 @@ pub fn locals(
 pub fn labels(alloc: Global, free: u32, from: Cursor) -> Result<(Items<Label>, Cursor), ParseFault>
     ensures { Gives (λ x. (map label_of x.0, x.1.at, kinds x.1.left.now)) result (reading.members (reading.label (reading.expression free)) from.entry.at (kinds from.entry.left.now)) }
 {
-    let mut labels = Items::new(alloc);
+    let mut labels = list_with_room(alloc, 1)?;
     let (first, behind) = label(alloc, free, from)?;
     labels.push(first)?;
     let mut here = behind;
@@ -65,7 +65,7 @@ pub fn parameters(alloc: Global, from: Cursor) -> Result<(Items<Param>, Cursor),
 fn some_parameters(alloc: Global, from: Cursor) -> Result<(Items<Param>, Cursor), ParseFault>
     ensures { Gives (λ x. (x.0, x.1.at, kinds x.1.left.now)) result (reading.members reading.parameter from.entry.at (kinds from.entry.left.now)) }
 {
-    let mut params = Items::new(alloc);
+    let mut params = list_with_room(alloc, 1)?;
     let (first, behind) = parameter(alloc, from)?;
     params.push(first)?;
     let mut here = behind;
@@ -102,7 +102,7 @@ fn some_variables(
 ) -> Result<(Items<Item>, Cursor), ParseFault>
     ensures { Gives (λ x. (items_of x.0, x.1.at, kinds x.1.left.now)) result (reading.members (reading.var global kind) from.entry.at (kinds from.entry.left.now)) }
 {
-    let mut variables = Items::new(alloc);
+    let mut variables = list_with_room(alloc, 1)?;
     let (first, behind) = variable(alloc, global, kind, from)?;
     variables.push(first)?;
     let mut here = behind;

@@ -14,7 +14,7 @@ use ci_expressions::{
     begins_statement, below, expect_keyword, expect_sign, expression, is_keyword, name_at, next,
     type_of,
 };
-use ci_tree::{Clause, Keyword, Sign, Stmt, TokenKind, TypeAt, TypeName};
+use ci_tree::{Clause, Keyword, Sign, Stmt, TokenKind, TypeAt, TypeName, list_with_room};
 use sqlite_items::Items;
 use std::alloc::Global;
 
@@ -235,7 +235,7 @@ fn begins_clause(here: Cursor) -> bool
 pub fn body(alloc: Global, free: u32, from: Cursor) -> Result<(Items<Stmt>, Cursor), ParseFault>
     ensures { Gives (λ x. (block_of x.0, x.1.at, kinds x.1.left.now)) result (reading.body free from.entry.at (kinds from.entry.left.now)) }
 {
-    let mut found = Items::new(alloc);
+    let mut found = list_with_room(alloc, 1)?;
     let mut here = from;
     for _ in 0..from.left.len() {
         if !begins_statement(here) {
@@ -395,7 +395,7 @@ fn cases(
 ) -> Result<(Items<Clause>, Option<Items<Stmt>>, Cursor), ParseFault>
     ensures { Gives (λ x. (reading.cases_of (clauses_of x.0) (other_from (option_map block_of x.1)), x.2.at, kinds x.2.left.now)) result (reading.cases (reading.within inside) (suc (length (kinds from.entry.left.now))) from.entry.at (kinds from.entry.left.now)) }
 {
-    let mut clauses = Items::new(alloc);
+    let mut clauses = list_with_room(alloc, 1)?;
     let mut here = from;
     for _ in 0..from.left.len() + 1 {
         if !begins_clause(here) {

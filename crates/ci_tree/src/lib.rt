@@ -4,6 +4,7 @@
 pub mod bound;
 mod file_tree;
 mod file_trees;
+mod lists;
 mod making;
 mod project;
 mod token;
@@ -12,6 +13,7 @@ mod tree;
 
 pub use file_tree::FileTree;
 pub use file_trees::FileTrees;
+pub use lists::list_with_room;
 pub use project::Project;
 pub use token::{Keyword, Sign, Token, TokenKind, TokenList};
 pub use trace_project::{TextList, TraceProject};

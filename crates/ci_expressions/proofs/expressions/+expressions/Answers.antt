@@ -51,7 +51,7 @@ arguments-returns t c =
 
 pub links-returns-in_err-link : goal.links-returns-in_err-link
 links-returns-in_err-link t c =
-    let p = err_from_is_err_and c.from_residual.result c.from_residual.ensures.1 in
+    let p = err_from_is_err_and c.from_residual-in_err-link.result c.from_residual-in_err-link.ensures.1 in
     rw (p.1, p.2) (fails c.in_err-link.field-0.0 (reading.link_at (reading.level_on (reading.unary c.args.free) c.args.group) c.args.group) (map link_of c.loop.links) (length c.args.from.left.now) c.loop.counter c.loop.here.at (kinds c.loop.here.left.now) _ c.loop-test.true c.in_err-link.ensures c.loop.invariant)
 
 pub links-loop-preserved : goal.links-loop-preserved
@@ -64,7 +64,7 @@ pub some_arguments-loop-init : goal.some_arguments-loop-init
 some_arguments-loop-init t c =
     let first = c.in_ok-first.first in
     let behind = c.in_ok-first.behind in
-    let one : map expr_of c.push.new.self ≡ expr_of first ∷ [] = ap (map expr_of) (c.in_ok-push.ensures.ok ∙ ap (λ xs. xs ++ first ∷ []) c.new-args.ensures) in
+    let one : map expr_of c.push.new.self ≡ expr_of first ∷ [] = ap (map expr_of) (c.in_ok-push.ensures.ok ∙ ap (λ xs. xs ++ first ∷ []) c.in_ok-args.ensures) in
     begin _ _ _ _ _ _ _ _ one (length_kinds behind.left.now) (members_first (reading.level_on (reading.unary c.args.free) 8) c.args.from.at (kinds c.args.from.left.now) (expr_of first) behind.at (kinds behind.left.now) c.in_ok-first.ensures)
 
 pub some_arguments-loop-preserved : goal.some_arguments-loop-preserved

@@ -11,7 +11,7 @@ pub loop-init : goal.loop-init
 loop-init c =
     let first = c.in_ok-first.first in
     let behind = c.in_ok-first.behind in
-    let one : map label_of c.push.new.self ≡ label_of first ∷ [] = ap (map label_of) (c.in_ok-push.ensures.ok ∙ ap (λ xs. xs ++ first ∷ []) c.new-labels.ensures) in
+    let one : map label_of c.push.new.self ≡ label_of first ∷ [] = ap (map label_of) (c.in_ok-push.ensures.ok ∙ ap (λ xs. xs ++ first ∷ []) c.in_ok-labels.ensures) in
     begin _ _ _ _ _ _ _ _ one (length_kinds behind.left.now) (members_first (reading.label (reading.expression c.args.free)) c.args.from.at (kinds c.args.from.left.now) (label_of first) behind.at (kinds behind.left.now) c.in_ok-first.ensures)
 
 pub loop-preserved : goal.loop-preserved

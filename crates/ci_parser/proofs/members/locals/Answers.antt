@@ -11,7 +11,7 @@ pub loop-init : goal.loop-init
 loop-init c =
     let first = c.in_ok-first.first in
     let behind = c.in_ok-first.behind in
-    let one : map local_of c.push.new.self ≡ local_of first ∷ [] = ap (map local_of) (c.in_ok-push.ensures.ok ∙ ap (λ xs. xs ++ first ∷ []) c.new-locals.ensures) in
+    let one : map local_of c.push.new.self ≡ local_of first ∷ [] = ap (map local_of) (c.in_ok-push.ensures.ok ∙ ap (λ xs. xs ++ first ∷ []) c.in_ok-locals.ensures) in
     begin _ _ _ _ _ _ _ _ one (length_kinds behind.left.now) (members_first (reading.local (reading.expression c.args.free)) c.args.from.at (kinds c.args.from.left.now) (local_of first) behind.at (kinds behind.left.now) c.in_ok-first.ensures)
 
 pub loop-preserved : goal.loop-preserved

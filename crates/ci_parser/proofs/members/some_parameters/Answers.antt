@@ -8,7 +8,7 @@ pub loop-init : goal.loop-init
 loop-init c =
     let first = c.in_ok-first.first in
     let behind = c.in_ok-first.behind in
-    let one : c.push.new.self ≡ first ∷ [] = c.in_ok-push.ensures.ok ∙ ap (λ xs. xs ++ first ∷ []) c.new-params.ensures in
+    let one : c.push.new.self ≡ first ∷ [] = c.in_ok-push.ensures.ok ∙ ap (λ xs. xs ++ first ∷ []) c.in_ok-params.ensures in
     begin _ _ _ _ _ _ _ _ one (length_kinds behind.left.now) (members_first reading.parameter c.args.from.at (kinds c.args.from.left.now) first behind.at (kinds behind.left.now) c.in_ok-first.ensures)
 
 pub loop-preserved : goal.loop-preserved

@@ -10,7 +10,7 @@ pub loop-init : goal.loop-init
 loop-init c =
     let first = c.in_ok-first.first in
     let behind = c.in_ok-first.behind in
-    let one : map item_of c.push.new.self ≡ item_of first ∷ [] = ap (map item_of) (c.in_ok-push.ensures.ok ∙ ap (λ xs. xs ++ first ∷ []) c.new-variables.ensures) in
+    let one : map item_of c.push.new.self ≡ item_of first ∷ [] = ap (map item_of) (c.in_ok-push.ensures.ok ∙ ap (λ xs. xs ++ first ∷ []) c.in_ok-variables.ensures) in
     begin _ _ _ _ _ _ _ _ one (length_kinds behind.left.now) (members_first (reading.var c.args.global c.args.kind) c.args.from.at (kinds c.args.from.left.now) (item_of first) behind.at (kinds behind.left.now) c.in_ok-first.ensures)
 
 pub loop-preserved : goal.loop-preserved

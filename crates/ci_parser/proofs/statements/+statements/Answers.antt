@@ -7,21 +7,27 @@ use Rattle.ci_tree.specs.Seen.{stmt_of, clause_of, block_of}
 use Rattle.ci_expressions.specs.Gives.{kinds}
 use Rattle.ci_parser.specs.Reading as reading
 use Rattle.ci_expressions.proofs.Loops.{length_kinds}
-use Rattle.ci_parser.proofs.Bodies.{same_ok, body_begins, body_ends, body_last, body_goes_on, cases_begin, cases_close, close_fails, clause_fails, clause_goes_on, cases_spent}
+use Rattle.ci_parser.proofs.Bodies.{same_ok, body_begins, body_ends, body_fails, body_last, body_goes_on, cases_begin, cases_close, close_fails, clause_fails, clause_goes_on, cases_spent}
 use Rattle.ci_parser.proofs.statements.+statements.Goals as goal
 
 pub body-loop-init : goal.body-loop-init
-body-loop-init t c = body_begins c.args.free _ c.args.from.at (kinds c.args.from.left.now) (map stmt_of c.new-found.result) (ap (map stmt_of) c.new-found.ensures) (length_kinds c.args.from.left.now)
+body-loop-init t c = body_begins c.args.free _ c.args.from.at (kinds c.args.from.left.now) (map stmt_of c.in_ok-found.found) (ap (map stmt_of) c.in_ok-found.ensures) (length_kinds c.args.from.left.now)
 
 pub body-returns-then-not-begins_statement : goal.body-returns-then-not-begins_statement
 body-returns-then-not-begins_statement t c =
     body_ends (reading.expression c.args.free) (reading.inside_of c.args.free) (length c.args.from.left.now - c.loop.counter) c.loop.here.at (kinds c.loop.here.left.now) (map stmt_of c.loop.found) _
     (sym c.begins_statement.ensures ∙ c.if-not-begins_statement.true) c.loop.invariant
 
+pub body-returns-in_err-one : goal.body-returns-in_err-one
+body-returns-in_err-one t c =
+    let p = err_from_is_err_and c.from_residual-in_err-one.result c.from_residual-in_err-one.ensures.1 in
+    rw (p.1, p.2) (body_fails c.in_err-one.field-0.0 (reading.expression c.args.free) (reading.inside_of c.args.free) (length c.args.from.left.now) c.loop.counter c.loop.here.at (kinds c.loop.here.left.now) (map stmt_of c.loop.found) _
+    c.loop-test.true (sym c.begins_statement.ensures ∙ c.if-not-begins_statement.false) c.loop.invariant c.in_err-one.ensures)
+
 pub body-loop-preserved : goal.body-loop-preserved
 body-loop-preserved t c =
-    let more : map stmt_of c.in_ok-found.found ≡ map stmt_of c.loop.found ++ option_to_list (option_map stmt_of c.in_ok-one.one) = same_ok (Ok (map stmt_of c.in_ok-found.found)) _ _ refl (sym c.in_ok-found.ensures) in
-    body_goes_on (reading.expression c.args.free) (reading.inside_of c.args.free) (length c.args.from.left.now) c.loop.counter c.loop.here.at (kinds c.loop.here.left.now) (map stmt_of c.loop.found) (map stmt_of c.in_ok-found.found) _ (option_map stmt_of c.in_ok-one.one) c.in_ok-one.behind.at (kinds c.in_ok-one.behind.left.now)
+    let more : map stmt_of c.in_ok-found-2.found ≡ map stmt_of c.loop.found ++ option_to_list (option_map stmt_of c.in_ok-one.one) = same_ok (Ok (map stmt_of c.in_ok-found-2.found)) _ _ refl (sym c.in_ok-found-2.ensures) in
+    body_goes_on (reading.expression c.args.free) (reading.inside_of c.args.free) (length c.args.from.left.now) c.loop.counter c.loop.here.at (kinds c.loop.here.left.now) (map stmt_of c.loop.found) (map stmt_of c.in_ok-found-2.found) _ (option_map stmt_of c.in_ok-one.one) c.in_ok-one.behind.at (kinds c.in_ok-one.behind.left.now)
     c.loop-test.true (sym c.begins_statement.ensures ∙ c.if-not-begins_statement.false) c.loop.invariant c.in_ok-one.ensures more
 
 pub body-returns : goal.body-returns
@@ -32,11 +38,11 @@ body-returns t c =
 pub cases-loop-init : goal.cases-loop-init
 cases-loop-init t c =
     let same : length c.args.from.left.now + 1 - 0 ≡ suc (length (kinds c.args.from.left.now)) = omega (arith, length_kinds c.args.from.left.now) in
-    cases_begin (reading.within c.args.inside) _ _ c.args.from.at (kinds c.args.from.left.now) (map clause_of c.new-clauses.result) (ap (map clause_of) c.new-clauses.ensures) same
+    cases_begin (reading.within c.args.inside) _ _ c.args.from.at (kinds c.args.from.left.now) (map clause_of c.in_ok-clauses.clauses) (ap (map clause_of) c.in_ok-clauses.ensures) same
 
 pub cases-returns-in_err-other : goal.cases-returns-in_err-other
 cases-returns-in_err-other t c =
-    let p = err_from_is_err_and c.from_residual.result c.from_residual.ensures.1 in
+    let p = err_from_is_err_and c.from_residual-in_err-other.result c.from_residual-in_err-other.ensures.1 in
     rw (p.1, p.2) (close_fails c.in_err-other.field-0.0 (reading.within c.args.inside) (length c.args.from.left.now + 1) c.loop.counter c.loop.here.at (kinds c.loop.here.left.now) (map clause_of c.loop.clauses) _
     c.loop-test.true (sym c.begins_clause.ensures ∙ c.if-not-begins_clause.true) c.loop.invariant c.in_err-other.ensures)
 

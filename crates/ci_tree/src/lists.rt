@@ -1,0 +1,17 @@
+//! The lists that trees are made of.
+ghost use Rattle.std.specs.Prelude.{◌≡◌, [], IfOk};
+
+use ci_base::OutOfMemory;
+use sqlite_items::Items;
+use std::alloc::Global;
+
+/// The list without members, with room for so many. It takes memory where that is not 0, and more members may be added than there is
+/// room for. Most lists of a tree have one member, and a list that is told so wastes none.
+pub fn list_with_room<T>(alloc: Global, room: usize) -> Result<Items<T>, OutOfMemory>
+    ensures { IfOk result (λ list. list ≡ []) }
+{
+    match Vec::with_capacity(alloc, room) {
+        Ok(list) => Ok(Items::from_vec(list)),
+        Err(_) => Err(OutOfMemory),
+    }
+}
