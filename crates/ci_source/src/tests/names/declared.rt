@@ -4,7 +4,7 @@ use ci_binder::BindKind;
 use std::test::Fail;
 
 /// The sources, each in a line of its own, and their first fault.
-const ROWS: [Row; 44] = [
+const ROWS: [Row; 48] = [
     (
         "FUNCTION Main() INT a; INT a; END",
         Some((0, 8, BindKind::DeclaredTwice)),
@@ -20,6 +20,22 @@ const ROWS: [Row; 44] = [
     (
         "FUNCTION Main() INT a, a; STRING a; END",
         Some((0, 7, BindKind::DeclaredTwice)),
+    ),
+    (
+        "FUNCTION Main() IF 1 THEN INT a; ELSE INT a; END END",
+        Some((0, 12, BindKind::DeclaredTwice)),
+    ),
+    (
+        "FUNCTION Main() WHILE 1 DO INT a; END INT a; END",
+        Some((0, 12, BindKind::DeclaredTwice)),
+    ),
+    (
+        "FUNCTION Main() SELECT CASE 1 CASE 1 INT a; CASE 2 INT a; CASE ELSE INT a; END SELECT END",
+        Some((0, 15, BindKind::DeclaredTwice)),
+    ),
+    (
+        "FUNCTION F(INT a) INT b; END FUNCTION G(INT a) INT b; END",
+        None,
     ),
     (
         "FUNCTION F(INT a) INT a; END",
