@@ -1,5 +1,5 @@
 -- A source has one tree or one fault.
-use Rattle.std.proofs.Common.{◌≡◌, ℕ, List, Option, Some, None, sym, ◌∙◌, ap, subst}
+use Rattle.std.proofs.Common.{◌≡◌, ℕ, List, Option, Some, sym, ◌∙◌, ap, subst}
 use Rattle.ci_lexer.specs.Laws.{HasOneList, HasOneFault, NeverBoth}
 use Rattle.ci_expressions.specs.Gives.{kinds}
 use Rattle.ci_parser.specs.OfGrammar.{TreeOrRefused, OneTree}

@@ -1,12 +1,11 @@
 -- Sources have one project or one first fault.
-use Rattle.std.proofs.Common.{◌≡◌, ℕ, zero, suc, ◌<◌, List, [], ◌∷◌, length, take, get_or, Option, Some, None, sym, ◌∙◌, ap, subst, arith, inl, inr}
+use Rattle.std.proofs.Common.{◌≡◌, ℕ, zero, suc, ◌<◌, List, [], ◌∷◌, take, Some, None, sym, ◌∙◌, ap, subst, arith, inl, inr}
 use Rattle.std.specs.Prelude.{All, slice_get, ◌⊎◌}
 use Rattle.std.proofs.lemmas.Bool.{cases_order}
 use Rattle.std.proofs.lemmas.List.Elements.{All-head, All-tail, All-get_or}
 use Rattle.std.proofs.lemmas.Option.{slice_get_within, get_or_from_slice_get}
 use Rattle.ci_names.specs.Binding.{bound}
-use Rattle.ci_names.specs.Faults.{faults, first_fault}
-use Rattle.ci_names.specs.declared.fault.Fault.{Fault as NameFault}
+use Rattle.ci_names.specs.Faults.{first_fault}
 use Rattle.ci_source.specs.declared.fault.Fault.{Fault}
 use Rattle.ci_source.specs.Compiling.{parse_to, compiles, token_offset, HasTokens, HasTree, HasFirstLexicalFault, HasFirstGrammarFault, HasFirstNameFault, HasFirstFault}
 use Rattle.ci_source.specs.Faults.{name_fault}
@@ -14,7 +13,6 @@ use Rattle.ci_source.specs.Sources.{Parses, HasLexicalFault, HasGrammarFault}
 use Rattle.ci_source.proofs.OneFault.{Laws, one_parse, grammar-parse, lexical-same, grammar-same}
 use Rattle.ci_source.proofs.Options.{some_clash, some_same, clash}
 use Rattle.ci_source.proofs.Zipped.{zipped_at, zipped_same}
-use Rattle.ci_tree.specs.declared.token.Token.{Token}
 use Rattle.ci_tree.specs.Bound.{Project}
 use Rattle.ci_tree.specs.Tokens.{tokens}
 use Rattle.ci_tree.specs.Tree.{Item}

@@ -1,27 +1,25 @@
 -- What is told of the first fault of several sources.
 use Rattle.std.proofs.Common.{◌≡◌, ◌≢◌, ℕ, ◌<◌, ◌≤◌, List, [], length, take, get_or, Option, Some, None, refl, sym, ◌∙◌, ap, subst, arith, inl, inr}
 use Rattle.std.specs.Prelude.{All, slice_get, option_map, unwrap_or}
-use Rattle.std.specs.List.{AllZip}
 use Rattle.std.proofs.lemmas.Option.{slice_get-get_or, slice_get_read, get_or_from_slice_get}
 use Rattle.std.proofs.lemmas.Slice.Zip.{AllZip-long}
 use Rattle.ci_binder.specs.Refusals.{IsRefusal as IsBindRefusal}
 use Rattle.ci_lexer.specs.declared.fault.LexFault.{LexFault}
 use Rattle.ci_lexer.specs.declared.fault.LexFault.TheVariants as lex_faults
 use Rattle.ci_lexer.specs.Faults.{lex_fault}
-use Rattle.ci_names.specs.declared.fault.BindFault.{BindFault}
+use Rattle.ci_names.specs.declared.fault.BindKind.{BindKind}
 use Rattle.ci_names.specs.declared.fault.BindFault.TheVariants as bind_faults
 use Rattle.ci_expressions.specs.Gives.{kinds}
 use Rattle.ci_parser.specs.Refusals.{IsRefusal}
 use Rattle.ci_expressions.specs.declared.fault.ParseFault.{ParseFault}
 use Rattle.ci_expressions.specs.declared.fault.ParseFault.TheVariants as parse_faults
-use Rattle.ci_source.specs.declared.fault.Fault.{Fault}
 use Rattle.ci_source.specs.declared.telling.SourceFault.{SourceFault}
 use Rattle.ci_source.specs.declared.telling.SourceFault.TheVariants as source_faults
 use Rattle.ci_source.specs.Compiling.{parse_to, token_offset, HasTokens, HasTree}
 use Rattle.ci_source.specs.Sources.{Parses, HasLexicalFault, HasGrammarFault, grammar_fault}
-use Rattle.ci_source.specs.Telling.{IsRefusedAs, IsToldOf, LexTold, NamesToken, Told, ParseTold, NamesFile, BindTold}
+use Rattle.ci_source.specs.Faults.{name_fault}
+use Rattle.ci_source.specs.Telling.{IsRefusedAs, IsToldOf, LexTold, NamesToken, Told, ParseTold}
 use Rattle.ci_source.proofs.Offsets.{refused-before, reads-place, grammar-within, lexical-within, told-no_memory}
-use Rattle.ci_source.proofs.Zipped.{zipped_at, zipped_all}
 use Rattle.ci_tree.specs.declared.token.Token.{Token}
 use Rattle.ci_tree.specs.Refused.{Refusal, unexpected, unexpected_end, too_deep, refused_at}
 use Rattle.ci_tree.specs.Tokens.{tokens}
@@ -63,28 +61,45 @@ parse-told number source ts parse_faults.Memory result reads is told = let P : S
 within_source : (sources : List (List ℕ)) (i offset : ℕ) (source : List ℕ) → slice_get sources i ≡ Some source → offset ≤ length source → offset ≤ length (get_or sources i [])
 within_source sources i offset source numbered within = omega (arith, ap length (get_or_from_slice_get sources i source [] numbered))
 
+-- sources with trees have tokens
+pub tree-tokens : (sources : List (List ℕ)) → All HasTree sources → All HasTokens sources
+tree-tokens sources trees k d within = let tree = trees k d within in (tree.1.ts, tree.1.tokens_are)
+
+-- a source that was read has tokens
+pub read-tokens : (sources : List (List ℕ)) (i : ℕ) (source read : List ℕ) (ts : List Token) → i < length sources → source ≡ get_or sources i source → read ≡ source → tokens read ts → HasTokens (get_or sources i [])
+read-tokens sources i source read ts within is same lexed =
+    let numbered : slice_get sources i ≡ Some source = slice_get_read sources (length sources) i source refl within is in
+    let at : get_or sources i [] ≡ source = get_or_from_slice_get sources i source [] numbered in
+    let P : List ℕ → Type 0 = λ s. tokens s ts in
+    (ts, subst P (same ∙ sym at) lexed)
+
+-- a source that was read is as short as all are
+pub read-within : (sources : List (List ℕ)) (i : ℕ) (source read : List ℕ) → All (λ s. length s ≤ 262144) sources → i < length sources → source ≡ get_or sources i source → read ≡ source → length read ≤ 262144
+read-within sources i source read all within is same = omega (arith, all i source within, ap length same, ap length is)
+
 -- the sources before this one have tokens, and it has none
-pub lexical-first : (sources : List (List ℕ)) (lists : List (List Token)) (i : ℕ) (source : List ℕ) (result : SourceFault) → i < length sources → source ≡ get_or sources i source
-    → AllZip tokens (take i sources) lists → IsToldOf HasLexicalFault i source result → IsRefusedAs sources result
-lexical-first sources lists i source (source_faults.Refused file fault offset) within is lexed told =
+pub lexical-first : (sources : List (List ℕ)) (i : ℕ) (source : List ℕ) (result : SourceFault) → i < length sources → source ≡ get_or sources i source
+    → All HasTokens (take i sources) → IsToldOf HasLexicalFault i source result → IsRefusedAs sources result
+lexical-first sources i source (source_faults.Refused file fault offset) within is lexed told =
     let numbered : slice_get sources i ≡ Some source = slice_get_read sources (length sources) i source refl within is in
     let P : ℕ → Type 0 = λ n. IsRefusedAs sources (source_faults.Refused n fault offset) in
     subst P (sym told.0)
-    (inl (record { source = source; numbered = numbered; before = zipped_all tokens (take i sources) lists lexed; refused = told.1 }), within, within_source sources i offset source numbered told.2)
-lexical-first sources lists i source source_faults.Memory within is lexed told = tt
+    (inl (record { source = source; numbered = numbered; before = lexed; refused = told.1 }), within, within_source sources i offset source numbered told.2)
+lexical-first sources i source source_faults.Memory within is lexed told = tt
 
 -- all have tokens, the sources before this one have trees, and it has none
-pub grammar-first : (sources : List (List ℕ)) (lists : List (List Token)) (trees : List (List Item)) (i : ℕ) (source : List ℕ) (result : SourceFault) → i < length sources → source ≡ get_or sources i source
-    → AllZip tokens sources lists → parse_to (take i sources) trees → IsToldOf HasGrammarFault i source result → IsRefusedAs sources result
-grammar-first sources lists trees i source (source_faults.Refused file fault offset) within is lexed parsed told =
-    let numbered : slice_get sources i ≡ Some source = slice_get_read sources (length sources) i source refl within is in
+pub grammar-first : (sources : List (List ℕ)) (i : ℕ) (result : SourceFault) → i < length sources → All HasTokens sources → All HasTree (take i sources)
+    → IsToldOf HasGrammarFault i (get_or sources i []) result → IsRefusedAs sources result
+grammar-first sources i (source_faults.Refused file fault offset) within lexed parsed told =
+    let source = get_or sources i [] in
+    let numbered : slice_get sources i ≡ Some source = slice_get-get_or sources i [] within in
     let P : ℕ → Type 0 = λ n. IsRefusedAs sources (source_faults.Refused n fault offset) in
     subst P (sym told.0) (
-      inr (inl (record { source = source; numbered = numbered; lexed = zipped_all tokens sources lists lexed; before = zipped_all Parses (take i sources) trees parsed; refused = told.1 })),
+      inr (inl (record { source = source; numbered = numbered; lexed = lexed; before = parsed; refused = told.1 })),
       within,
       within_source sources i offset source numbered told.2,
     )
-grammar-first sources lists trees i source source_faults.Memory within is lexed parsed told = tt
+grammar-first sources i source_faults.Memory within lexed parsed told = tt
 
 -- a token is told within its source
 token-within : (source : List ℕ) (ts : List Token) (i : ℕ) → tokens source ts → token_offset source ts i ≤ length source
@@ -93,34 +108,32 @@ token-within source ts i reads = found (slice_get ts i) (reads-place (length sou
   found None within = omega arith
   found (Some t) within = within t refl
 
--- the files of a fault of names and kinds
-pub names-file : (trees : List (List Item)) (f : BindFault) (n : ℕ) → IsBindRefusal trees f → length trees ≡ n → NamesFile f n
-names-file trees (bind_faults.Fault file token kind) n is same = omega (arith, is.1)
-names-file trees bind_faults.Memory n is same = tt
+-- the source that a fault of names and kinds names
+pub names-file : (sources : List (List ℕ)) (trees : List (List Item)) (file token : ℕ) (kind : BindKind) → parse_to sources trees → IsBindRefusal trees (bind_faults.Fault file token kind) → file < length sources
+names-file sources trees file token kind parsed is = omega (arith, is.1, AllZip-long Parses sources trees parsed)
 
--- all have trees, and these have a first fault of names and kinds
-pub names-first : (sources : List (List ℕ)) (lists : List (List Token)) (trees : List (List Item)) (f : BindFault) (result : SourceFault) → AllZip tokens sources lists → parse_to sources trees
-    → IsBindRefusal trees f → BindTold sources lists f result → IsRefusedAs sources result
-names-first sources lists trees (bind_faults.Fault file token kind) result lexed parsed is told =
-    let within : file < length sources = omega (arith, is.1, AllZip-long Parses sources trees parsed) in
-    let numbered : slice_get sources file ≡ Some (get_or sources file []) = slice_get-get_or sources file [] within in
-    let at = zipped_at tokens sources lists file (get_or sources file []) lexed numbered in
-    let reads : tokens (get_or sources file []) (get_or lists file []) =
-    let P : List Token → Type 0 = tokens (get_or sources file []) in subst P (sym (get_or_from_slice_get lists file at.0 [] at.1)) at.2 in
-    let P : SourceFault → Type 0 = IsRefusedAs sources in
-    subst P (sym told) (
+-- all have trees, and these have a first fault of names and kinds, in a source that was read with these tokens
+pub names-first : (sources : List (List ℕ)) (trees : List (List Item)) (source read : List ℕ) (ts : List Token) (file token : ℕ) (kind : BindKind) → parse_to sources trees
+    → IsBindRefusal trees (bind_faults.Fault file token kind) → source ≡ get_or sources file source → read ≡ source → tokens read ts
+    → IsRefusedAs sources (source_faults.Refused file (name_fault kind) (token_offset read ts token))
+names-first sources trees source read ts file token kind parsed is numbered same lexed =
+    let within : file < length sources = names-file sources trees file token kind parsed is in
+    let found : slice_get sources file ≡ Some source = slice_get_read sources (length sources) file source refl within numbered in
+    let Q : List ℕ → Type 0 = λ s. tokens s ts in
+    let reads : tokens source ts = subst Q same lexed in
+    let P : List ℕ → Type 0 = λ s. IsRefusedAs sources (source_faults.Refused file (name_fault kind) (token_offset s ts token)) in
+    subst P (sym same) (
       inr (inr (record {
         trees = trees;
         parsed = parsed;
         first = record { file = file; token = token; kind = kind };
         holds = is.0;
-        source = get_or sources file [];
-        numbered = numbered;
-        ts = get_or lists file [];
+        source = source;
+        numbered = found;
+        ts = ts;
         tokens_are = reads;
         told = (refl, refl, refl);
       })),
       within,
-      token-within (get_or sources file []) (get_or lists file []) token reads,
+      within_source sources file (token_offset source ts token) source found (token-within source ts token reads),
     )
-names-first sources lists trees bind_faults.Memory result lexed parsed is told = let P : SourceFault → Type 0 = IsRefusedAs sources in subst P (sym told) tt

@@ -4,8 +4,6 @@ use Rattle.std.specs.Str.{str_eq_ignore_ascii_case}
 use Rattle.ci_lexer.specs.declared.fault.LexFault.{LexFault}
 use Rattle.ci_lexer.specs.declared.fault.LexFault.TheVariants as lex_faults
 use Rattle.ci_names.specs.Binding.{binds}
-use Rattle.ci_names.specs.declared.fault.BindFault.{BindFault}
-use Rattle.ci_names.specs.declared.fault.BindFault.TheVariants as bind_faults
 use Rattle.ci_expressions.specs.declared.fault.ParseFault.{ParseFault}
 use Rattle.ci_expressions.specs.declared.fault.ParseFault.TheVariants as parse_faults
 use Rattle.ci_tree.specs.declared.trace_project.TraceProject.{TraceProject}
@@ -17,9 +15,8 @@ use Rattle.ci_source.specs.declared.fault.Fault.{Fault}
 use Rattle.ci_source.specs.declared.compiled.Compiled.{Compiled}
 use Rattle.ci_source.specs.declared.telling.SourceFault.{SourceFault}
 use Rattle.ci_source.specs.declared.telling.SourceFault.TheVariants as source_faults
-use Rattle.ci_source.specs.Faults.{name_fault}
 use Rattle.ci_source.specs.Sources.{lexical_fault, grammar_fault}
-use Rattle.ci_source.specs.Compiling.{parse_to, token_offset, HasFirstFault}
+use Rattle.ci_source.specs.Compiling.{parse_to, HasFirstFault}
 
 -- a task can be started from the project's function by the name Main
 abbrev pub IsMain : TraceProject → Type 0
@@ -69,14 +66,3 @@ ParseTold number source ts (parse_faults.Unexpected at) told = Told number (gram
 ParseTold number source ts parse_faults.UnexpectedEnd told = Told number (grammar_fault source ts unexpected_end) told
 ParseTold number source ts (parse_faults.TooDeep at) told = Told number (grammar_fault source ts (too_deep at)) told
 ParseTold number source ts parse_faults.Memory told = told ≡ source_faults.Memory
-
--- the fault names one of so many files, if any
-abbrev pub NamesFile : BindFault → ℕ → Type 0
-NamesFile (bind_faults.Fault file token kind) files = file < files
-NamesFile bind_faults.Memory files = Unit {0}
-
--- what is told of a fault of names and kinds, where the sources have these tokens
-abbrev pub BindTold : List (List ℕ) → List (List Token) → BindFault → SourceFault → Type 0
-BindTold sources lists (bind_faults.Fault file token kind) told =
-    told ≡ source_faults.Refused file (name_fault kind) (token_offset (slice_index_or sources file []) (slice_index_or lists file []) token)
-BindTold sources lists bind_faults.Memory told = told ≡ source_faults.Memory

@@ -2,9 +2,11 @@
 
 use ci_tree::{FileTrees, Project};
 
-/// The trees of several sources, and the project that these bind to.
+/// The project that several sources bind to, and their trees.
 #[derive(Debug, Drop)]
 pub struct Compiled {
-    pub trees: FileTrees,
+    // Dropped first: freeing its long list of functions makes the C library's allocator go over all small pieces that were freed
+    // before.
     pub project: Project,
+    pub trees: FileTrees,
 }

@@ -1,17 +1,18 @@
 //! Reading sources: their trees and their project, or why there is none.
-ghost use Rattle.std.specs.Prelude.{◌≤◌, All, length, map, IfOk, IfErr};
-ghost use Rattle.std.specs.List.{AllZip};
-ghost use Rattle.ci_source.specs.Compiling.{parse_to, compiles};
+ghost use Rattle.std.specs.Prelude.{◌<◌, ◌≤◌, All, List, [], length, map, take, slice_index_or, IfOk, IfErr};
+ghost use Rattle.ci_binder.specs.Refusals.{IsRefusal as IsBindRefusal};
+ghost use Rattle.ci_source.specs.Compiling.{parse_to, compiles, HasTokens, HasTree};
 ghost use Rattle.ci_source.specs.Sources.{Parses, HasLexicalFault, HasGrammarFault};
 ghost use Rattle.ci_source.specs.Telling.{ReadsTo, IsRefusedAs, IsToldOf};
 ghost use Rattle.ci_tree.specs.Seen.{items_of};
 ghost use Rattle.ci_tree.specs.SeenBound.{project_of};
 ghost use Rattle.ci_tree.specs.Tokens.{tokens};
+ghost use Rattle.ci_tree.specs.Tree.{Item};
 
 use crate::compiled::Compiled;
-use crate::telling::{SourceFault, bind_fault, grammar_fault, lexical_fault};
+use crate::telling::{SourceFault, grammar_fault, lexical_fault, named_fault};
 use ci_base::Bytes;
-use ci_binder::bind;
+use ci_binder::{BindFault, bind};
 use ci_lexer::lex;
 use ci_parser::parse;
 use ci_tree::{FileTree, FileTrees, TokenList};
@@ -27,29 +28,34 @@ pub fn read_sources(alloc: Global, sources: &[Bytes]) -> Result<Compiled, Source
     ensures compiles { IfOk result (λ compiled. compiles sources.now (project_of compiled.project)) }
     ensures err { IfErr result (λ fault. IsRefusedAs sources.now fault) }
 {
-    let lists = lex_sources(alloc, sources)?;
-    let trees = parse_sources(alloc, sources, &lists)?;
+    let trees = parse_sources(alloc, sources)?;
     match bind(alloc, &trees) {
-        Ok(project) => Ok(Compiled { trees, project }),
-        Err(fault) => Err(bind_fault(sources, &lists, fault)),
+        Ok(project) => Ok(Compiled { project, trees }),
+        Err(fault) => Err(names_fault(alloc, sources, fault)),
     }
 }
 
-/// The tokens of each source, or the first lexical fault.
-fn lex_sources(alloc: Global, sources: &[Bytes]) -> Result<Vec<TokenList>, SourceFault>
+/// The tree of each source, or the first fault of their tokens or else of their grammar. The tokens of a source are let go of as soon
+/// as its tree is made, so that those of one source at a time take memory.
+fn parse_sources(alloc: Global, sources: &[Bytes]) -> Result<FileTrees, SourceFault>
     requires few { length sources.now ≤ 64 }
     requires within { All (λ source. length source ≤ 262144) sources.now }
-    ensures ok { IfOk result (λ lists. AllZip tokens sources.now lists.items) }
+    ensures ok { IfOk result (λ trees. parse_to sources.now (map items_of trees)) }
     ensures err { IfErr result (λ fault. IsRefusedAs sources.now fault) }
 {
-    let mut lists = Vec::new(alloc);
+    let mut trees = FileTrees::empty(alloc);
     for (file, source) in sources.iter().enumerate() {
         let list = lex_file(alloc, file as u32, source.bytes())?;
-        let Ok(()) = lists.push(list) else {
-            return Err(SourceFault::Memory);
-        };
+        match parse_file(alloc, file as u32, source.bytes(), &list) {
+            Ok(tree) => {
+                let Ok(()) = trees.add(tree) else {
+                    return Err(SourceFault::Memory);
+                };
+            }
+            Err(fault) => return Err(grammar_or_later_fault(alloc, sources, file, fault)),
+        }
     }
-    Ok(lists)
+    Ok(trees)
 }
 
 /// The tokens of the source of this number, or its lexical fault.
@@ -62,28 +68,6 @@ fn lex_file(alloc: Global, file: u32, source: &[u8]) -> Result<TokenList, Source
         Ok(list) => Ok(list),
         Err(fault) => Err(lexical_fault(file, fault)),
     }
-}
-
-/// The trees of the sources with these tokens, or the first fault of their grammar.
-fn parse_sources(
-    alloc: Global,
-    sources: &[Bytes],
-    lists: &[TokenList],
-) -> Result<FileTrees, SourceFault>
-    requires few { length sources.now ≤ 64 }
-    requires within { All (λ source. length source ≤ 262144) sources.now }
-    requires lexed { AllZip tokens sources.now lists.now }
-    ensures ok { IfOk result (λ trees. parse_to sources.now (map items_of trees)) }
-    ensures err { IfErr result (λ fault. IsRefusedAs sources.now fault) }
-{
-    let mut trees = FileTrees::empty(alloc);
-    for (file, source) in sources.iter().enumerate() {
-        let tree = parse_file(alloc, file as u32, source.bytes(), &lists[file])?;
-        let Ok(()) = trees.add(tree) else {
-            return Err(SourceFault::Memory);
-        };
-    }
-    Ok(trees)
 }
 
 /// The tree of the source of this number, which has these tokens, or its fault of grammar.
@@ -101,5 +85,49 @@ fn parse_file(
     match parse(alloc, list) {
         Ok(tree) => Ok(tree),
         Err(fault) => Err(grammar_fault(file, source, list.tokens(), &fault)),
+    }
+}
+
+/// The first fault of the sources, of which the one of this number has this fault of grammar and each before it has a tree: a
+/// lexical fault of a later one, or else this one.
+fn grammar_or_later_fault(
+    alloc: Global,
+    sources: &[Bytes],
+    file: usize,
+    fault: SourceFault,
+) -> SourceFault
+    requires few { length sources.now ≤ 64 }
+    requires number { file < length sources.now }
+    requires within { All (λ source. length source ≤ 262144) sources.now }
+    requires before { All HasTree (take file sources.now) }
+    requires own { HasTokens (slice_index_or sources.now file []) }
+    requires told { IsToldOf HasGrammarFault file (slice_index_or sources.now file []) fault }
+    ensures { IsRefusedAs sources.now result }
+{
+    for later in file + 1..sources.len() {
+        if let Err(lexical) = lex_file(alloc, later as u32, sources[later].bytes()) {
+            return lexical;
+        }
+    }
+    fault
+}
+
+/// What is told of a fault of the names and kinds of sources that have trees. Since their tokens are gone, those of the source with
+/// the fault are read once more for its place.
+fn names_fault(alloc: Global, sources: &[Bytes], fault: BindFault) -> SourceFault
+    requires few { length sources.now ≤ 64 }
+    requires within { All (λ source. length source ≤ 262144) sources.now }
+    requires bound { (trees : List (List Item)) × parse_to sources.now trees × IsBindRefusal trees fault }
+    ensures { IsRefusedAs sources.now result }
+{
+    match fault {
+        BindFault::Memory => SourceFault::Memory,
+        BindFault::Fault { file, token, kind } => {
+            let source = sources[file as usize].bytes();
+            match lex_file(alloc, file, source) {
+                Ok(list) => named_fault(file, source, list.tokens(), token, kind),
+                Err(fault) => fault,
+            }
+        }
     }
 }

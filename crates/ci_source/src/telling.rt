@@ -1,14 +1,14 @@
 //! What is told of refused sources: the fault, the number of its file, and the offset at which it is told.
-ghost use Rattle.std.specs.Prelude.{◌≡◌, ◌≤◌, All, length};
+ghost use Rattle.std.specs.Prelude.{◌≡◌, ◌≤◌, length};
 ghost use Rattle.ci_source.specs.Compiling.{token_offset as offset_of_token};
-ghost use Rattle.ci_source.specs.Telling.{LexTold, ParseTold, BindTold, NamesToken, NamesFile};
+ghost use Rattle.ci_source.specs.Faults.{name_fault as fault_of_names};
+ghost use Rattle.ci_source.specs.Telling.{LexTold, ParseTold, NamesToken};
 
 use crate::fault::{Fault, name_fault};
-use ci_base::Bytes;
 use ci_lexer::LexFault;
-use ci_names::BindFault;
+use ci_names::BindKind;
 use ci_parser::ParseFault;
-use ci_tree::{Token, TokenList};
+use ci_tree::Token;
 
 /// Why sources give no project.
 #[derive(Clone, Copy, Debug, PartialEq, Eq)]
@@ -66,21 +66,18 @@ pub(crate) fn grammar_fault(
     }
 }
 
-/// What is told of a fault of the names and kinds of the files with these tokens.
-pub(crate) fn bind_fault(sources: &[Bytes], lists: &[TokenList], fault: BindFault) -> SourceFault
-    requires within { All (λ source. length source ≤ 262144) sources.now }
-    requires in_sources { NamesFile fault (length sources.now) }
-    requires in_lists { NamesFile fault (length lists.now) }
-    ensures { BindTold sources.now lists.now fault result }
+/// What is told of a fault of names or kinds at the token of this index.
+pub(crate) fn named_fault(
+    file: u32,
+    source: &[u8],
+    tokens: &[Token],
+    token: u32,
+    kind: BindKind,
+) -> SourceFault
+    requires { length source.now ≤ 262144 }
+    ensures { result ≡ SourceFault.Refused file (fault_of_names kind) (offset_of_token source.now tokens.now token) }
 {
-    match fault {
-        BindFault::Fault { file, token, kind } => {
-            let source = sources[file as usize].bytes();
-            let tokens = lists[file as usize].tokens();
-            refused(file, name_fault(kind), token_offset(source, tokens, token))
-        }
-        BindFault::Memory => SourceFault::Memory,
-    }
+    refused(file, name_fault(kind), token_offset(source, tokens, token))
 }
 
 /// Where the token of this index stands in the source; its end, where there is none.

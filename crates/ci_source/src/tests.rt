@@ -3,7 +3,7 @@ mod files;
 mod names;
 mod places;
 
-use crate::telling::{bind_fault, grammar_fault, lexical_fault};
+use crate::telling::{grammar_fault, lexical_fault, named_fault};
 use crate::*;
 use ci_base::{Bytes, Text};
 use ci_lexer::{LexFault, lex};
@@ -107,28 +107,17 @@ fn faults_are_told_at_their_offsets(rt: HostRuntime) -> Result<(), Fail> {
 #[test]
 fn faults_of_names_are_told_at_tokens_of_their_files(rt: HostRuntime) -> Result<(), Fail> {
     let alloc = rt.alloc();
-    let sources = [
-        Bytes::copy(alloc, b"INT a;")?,
-        Bytes::copy(alloc, b"\n INT b ;")?,
-    ];
-    let lists = [lex(alloc, b"INT a;")?, lex(alloc, b"\n INT b ;")?];
+    let source = b"\n INT b ;";
+    let list = lex(alloc, source)?;
     let rows = [
         (0, BindKind::Limit(Limit::Cells), Fault::LimitCells, 2),
         (1, BindKind::DeclaredTwice, Fault::DeclaredTwice, 6),
         (2, BindKind::IndexOnScalar, Fault::IndexOnScalar, 8),
         (3, BindKind::NameUnknown, Fault::NameUnknown, 9),
     ];
-    assert!(rt; sources[1].bytes().len() == 9);
     for (token, kind, fault, offset) in rows {
-        let found = BindFault::Fault {
-            file: 1,
-            token,
-            kind,
-        };
-        let told = bind_fault(&sources, &lists, found);
+        let told = named_fault(1, source, list.tokens(), token, kind);
         assert_eq!(rt; told, of_second(fault, offset));
     }
-    let memory = bind_fault(&sources, &lists, BindFault::Memory);
-    assert_eq!(rt; memory, SourceFault::Memory);
     Ok(())
 }

@@ -1,4 +1,4 @@
-use Rattle.std.proofs.Common.{◌≡◌, ◌≤◌, length, sym, subst, ap, ◌∙◌, arith}
+use Rattle.std.proofs.Common.{length, ap, arith}
 use Rattle.ci_source.proofs.Items.{one_more, too_many}
 use Rattle.ci_source.proofs.form.lone_item.Goals as goal
 

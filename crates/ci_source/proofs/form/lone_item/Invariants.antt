@@ -1,4 +1,4 @@
-use Rattle.std.specs.Prelude.{◌≡◌, [], MatchOption, map, take, flat_map}
+use Rattle.std.specs.Prelude.{MatchOption, map, take}
 use Rattle.ci_tree.specs.Seen.{item_of, items_of}
 use Rattle.ci_source.specs.FirstForm.{IsLoneItem}
 use Rattle.ci_source.proofs.Items.{IsEmpty}
