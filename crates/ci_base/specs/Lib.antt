@@ -1,6 +1,14 @@
+pub mod Arithmetic
+pub mod Comparisons
 pub mod Functions
+pub mod Heard
 pub mod Letters
 pub mod Names
 pub mod Numbers
 pub mod Places
+pub mod PrivateFunctions
+pub mod Requests
+pub mod Steps
+pub mod TextFunctions
 pub mod Texts
+pub mod Values

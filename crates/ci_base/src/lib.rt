@@ -2,8 +2,10 @@
 //! script, and the entries of a history.
 #![tactic(auto)]
 
+pub mod bounds;
 mod bytes;
 mod entry;
+pub mod errors;
 mod event;
 mod function;
 mod layout;
@@ -13,11 +15,10 @@ mod list;
 mod memory;
 mod place;
 mod position;
+mod relation;
 mod reply;
 mod request;
 mod task;
-#[cfg(test)]
-mod tests;
 mod text;
 mod value;
 
@@ -34,6 +35,7 @@ pub use list::{Loose, LooseList};
 pub use memory::OutOfMemory;
 pub use place::{Place, Status};
 pub use position::{Position, place_of};
+pub use relation::Relation;
 pub use reply::{Answer, Extra, Reply};
 pub use request::Request;
 pub use task::{Args, Birth, Delivery, Grant, Trail, Woken};

@@ -1,7 +1,9 @@
 //! How tasks are started, answered and lent.
 ghost use Rattle.std.specs.Prelude.{◌≡◌, ◌<◌, ◌≤◌, [], ◌∷◌, ◌++◌, ◌↔◌, length, IsTrue};
 ghost use Rattle.ci_base.specs.declared.reply.Answer.{Answer};
+ghost use Rattle.ci_base.specs.declared.bounds.TheConstants.{MOST_PARAMETERS, MOST_LIVE_TASKS};
 
+use crate::bounds::{MOST_LIVE_TASKS, MOST_PARAMETERS};
 use crate::{Answer, Value};
 use arrayvec::ArrayVec;
 use std::collections::LinkedList;
@@ -10,10 +12,11 @@ use std::marker::Model;
 /// The arguments of a task: a list of at most 16 values, which contracts see.
 #[derive(Debug, PartialEq, Eq, Drop)]
 pub struct Args {
-    kept: ArrayVec<Value, 16>,
+    kept: ArrayVec<Value, MOST_PARAMETERS>,
 }
 
 impl Model for Args {
+    ghost use Rattle.ci_base.specs.declared.bounds.TheConstants.{MOST_PARAMETERS};
     ghost use Rattle.std.specs.Prelude.{List, ◌≤◌, length};
     ghost use Rattle.ci_base.specs.declared.value.Value.{Value as Held};
 
@@ -21,7 +24,7 @@ impl Model for Args {
 
     ghost view = { λ args. args.kept.items };
 
-    ghost invariant = { λ args. length args.kept.items ≤ 16 };
+    ghost invariant = { λ args. length args.kept.items ≤ MOST_PARAMETERS };
 
     ghost inverse = { λ values. record { kept = record { items = values } } };
 }
@@ -46,7 +49,7 @@ impl Args {
 
     /// Adds the value at the end.
     pub fn add(&mut self, value: Value)
-        requires { length self.old < 16 }
+        requires { length self.old < MOST_PARAMETERS }
         ensures { self.new ≡ self.old ++ value ∷ [] }
     {
         self.kept.push(value);
@@ -62,7 +65,7 @@ impl Args {
     /// The values, in order.
     pub fn values(&self) -> &[Value]
         ensures value { result.now ≡ self.now }
-        ensures within { length result.now ≤ 16 }
+        ensures within { length result.now ≤ MOST_PARAMETERS }
     {
         self.kept.as_slice()
     }
@@ -70,7 +73,7 @@ impl Args {
     /// The same arguments again. Takes no memory.
     pub fn copy(&self) -> Args
         ensures value { result ≡ self.now }
-        ensures within { length result ≤ 16 }
+        ensures within { length result ≤ MOST_PARAMETERS }
     {
         let mut copy = Args::empty();
         for value in self.kept.as_slice() {
@@ -147,10 +150,11 @@ impl Delivery {
 /// The answers that one step gave to tasks that waited: a list of at most 64 deliveries, which contracts see.
 #[derive(Debug, PartialEq, Eq, Drop)]
 pub struct Woken {
-    kept: ArrayVec<Delivery, 64>,
+    kept: ArrayVec<Delivery, MOST_LIVE_TASKS>,
 }
 
 impl Model for Woken {
+    ghost use Rattle.ci_base.specs.declared.bounds.TheConstants.{MOST_LIVE_TASKS};
     ghost use Rattle.std.specs.Prelude.{List, ◌≤◌, length};
     ghost use Rattle.ci_base.specs.declared.task.Delivery.{Delivery};
 
@@ -158,7 +162,7 @@ impl Model for Woken {
 
     ghost view = { λ woken. woken.kept.items };
 
-    ghost invariant = { λ woken. length woken.kept.items ≤ 64 };
+    ghost invariant = { λ woken. length woken.kept.items ≤ MOST_LIVE_TASKS };
 
     ghost inverse = { λ deliveries. record { kept = record { items = deliveries } } };
 }
@@ -175,7 +179,7 @@ impl Woken {
 
     /// Adds the delivery at the end.
     pub fn add(&mut self, delivery: Delivery)
-        requires { length self.old < 64 }
+        requires { length self.old < MOST_LIVE_TASKS }
         ensures { self.new ≡ self.old ++ delivery ∷ [] }
     {
         self.kept.push(delivery);
@@ -201,7 +205,7 @@ impl Woken {
     /// The deliveries, in order.
     pub fn deliveries(&self) -> &[Delivery]
         ensures value { result.now ≡ self.now }
-        ensures within { length result.now ≤ 64 }
+        ensures within { length result.now ≤ MOST_LIVE_TASKS }
     {
         self.kept.as_slice()
     }
@@ -209,7 +213,7 @@ impl Woken {
     /// The same deliveries again. Takes no memory.
     pub fn copy(&self) -> Woken
         ensures value { result ≡ self.now }
-        ensures within { length result ≤ 64 }
+        ensures within { length result ≤ MOST_LIVE_TASKS }
     {
         let mut copy = Woken::empty();
         for delivery in self.kept.as_slice() {
