@@ -20,7 +20,7 @@ use Rattle.ci_names.specs.Scopes.{Scope, Local, with_locals, declared_local, loc
 use Rattle.ci_names.specs.Kinds.{plain_kind, element_kind, takes_of, is_count, kind_of, are_taken}
 use Rattle.ci_names.specs.Expressions.{broken, differ, start_of, wants_kind, called_name, argument_count, expr_faults, args_faults}
 use Rattle.ci_names.specs.Statements.{type_faults, local_name, maybe, part_faults, locals_faults, target, assigned, compared, label_faults, labels_faults, return_faults, stmt_faults, other_faults, clauses_faults, block_faults}
-use Rattle.ci_names.specs.Binding.{scalar_of, array_of, callee_of, called_with, bound_expr, bound_args, bound_call, set_before, locals_before, bound_assign, bound_label, returned, bound_before, bound_other, bound_last, bound_clauses, bound_block, bound_declared}
+use Rattle.ci_names.specs.Binding.{scalar_of, array_of, callee_of, heads_in, called_with, bound_expr, bound_args, bound_call, set_before, locals_before, bound_assign, bound_label, returned, bound_before, bound_other, bound_last, bound_clauses, bound_block, bound_declared}
 use Rattle.ci_names.proofs.Free.{is_free, free_append, wanted, expr_free, args_free}
 use Rattle.ci_names.proofs.Leads.{left_true, right_true, both_true, Leads, has_leads, Fits, IsThere, plain_kept, element_kept, expr_kept, args_kept, read_kept, call_kept, is_right}
 use Rattle.ci_names.proofs.Meant.{kinds, Stands, slice_get_seam, fits}
@@ -149,8 +149,8 @@ pub not_false : (b : Bool) → not b ≡ false → b ≡ true
 not_false true h = refl
 not_false false h = absurd (true≢false h)
 
-pub call_sound : (c : Context) (s : Scope) → Fits c s → (at : ℕ) (args : from.Exprs) (m : Meaning) (o : Option Called) → ((called : Called) → o ≡ Some called → IsThere c called) →
-    is_free (called_name s at o m ++ argument_count s at o args ++ args_faults s (takes_of o) args) ≡ true → is_call c (called_with (callee_of o) (bound_args s (takes_of o) args)) ≡ true
+pub call_sound : (c : Context) (s : Scope) → Fits c s → (at : ℕ) (args : from.Exprs) (m : Meaning) (o : Option Called) → ((called : Called) → o ≡ Some called → IsThere c (heads_in s.declared) called) →
+    is_free (called_name s at o m ++ argument_count s at o args ++ args_faults s (takes_of o) args) ≡ true → is_call c (called_with (heads_in s.declared) (callee_of o) (bound_args s args)) ≡ true
 call_sound c s f at args m None there free = absurd (true≢false (sym free))
 call_sound c s f at args m (Some called) there free =
     let count = not_false (is_count called.heading.takes args) (unbroken (not (is_count called.heading.takes args)) s at faults.ArgumentCount (free_left (argument_count s at (Some called) args) (args_faults s called.heading.takes args) free)) in

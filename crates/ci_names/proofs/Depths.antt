@@ -1,5 +1,5 @@
 -- A bound tree has at most as many levels open at once as its tree.
-use Rattle.std.specs.Prelude.{ℕ, ◌+◌, ◌≤◌, max, List, [], ◌∷◌, map, Option, Some, None}
+use Rattle.std.specs.Prelude.{ℕ, ◌+◌, ◌≤◌, max, List, [], ◌∷◌, map, drop, Option, Some, None}
 use native.Mathlib.Omega.{arith}
 use Rattle.ci_base.specs.declared.value.Kind.{Kind}
 use Rattle.ci_base.specs.declared.value.Value.{Value}
@@ -9,11 +9,10 @@ use Rattle.ci_tree.specs.Tree as from
 use Rattle.ci_tree.specs.Bound as to
 use Rattle.ci_tree.specs.Bound.{Callee}
 use Rattle.ci_tree.specs.Depth.{depth, call_depth, links_depth, args_depth, label_depth, labels_depth, stmt_depth, other_depth, clauses_depth, block_depth}
-use Rattle.ci_names.specs.Given.{Taken, by_value, with_default, to_be_set}
 use Rattle.ci_names.specs.Declarations.{kind_of_type}
 use Rattle.ci_names.specs.Scopes.{Scope, Meaning, with_locals, declared_local, locals_in, locals_in_block, locals_in_clauses, meaning, callee}
-use Rattle.ci_names.specs.Kinds.{takes_of}
-use Rattle.ci_names.specs.Binding.{callee_of, constant, left_out, called_with, bound_expr, bound_what, bound_links, bound_args, bound_call, set_before, locals_before, bound_assign, bound_label, returned, bound_before, bound_other, bound_last, bound_clauses, bound_block}
+use Rattle.ci_tree.specs.LeftOut.{Heads, constant, constants, followed, left_out, count_of, firsts, call_given}
+use Rattle.ci_names.specs.Binding.{callee_of, heads_in, called_with, bound_expr, bound_what, bound_links, bound_args, bound_call, set_before, locals_before, bound_assign, bound_label, returned, bound_before, bound_other, bound_last, bound_clauses, bound_block}
 use Rattle.ci_names.proofs.Deep.{deep, what_deep, links_deep, args_deep, maybe_deep, index_deep, locals_deep, label_deep, labels_deep, stmt_deep, other_deep, clauses_deep, block_deep}
 use Rattle.ci_names.proofs.Maxima.{max_least, max_both}
 
@@ -25,22 +24,30 @@ constant_flat (values.Int n) = omega arith
 constant_flat (values.Str t) = omega arith
 
 -- the arguments that are left out are constants
-left_flat : (takes : List Taken) → args_depth (left_out takes) ≤ 0
+left_flat : (values : List (Option Value)) → args_depth (constants values) ≤ 0
 left_flat [] = omega arith
-left_flat ((by_value kind) ∷ takes) = left_flat takes
-left_flat ((with_default kind v) ∷ takes) = max_least (depth (constant v)) (args_depth (left_out takes)) 0 (constant_flat v) (left_flat takes)
-left_flat ((to_be_set kind) ∷ takes) = left_flat takes
+left_flat (None ∷ values) = left_flat values
+left_flat ((Some v) ∷ values) = max_least (depth (constant v)) (args_depth (constants values)) 0 (constant_flat v) (left_flat values)
+
+-- constants behind arguments open no level
+followed_flat : (args behind : to.Exprs) → args_depth behind ≤ 0 → args_depth (followed args behind) ≤ args_depth args
+followed_flat to.no_expr behind h = h
+followed_flat (to.more first rest) behind h = let r = followed_flat rest behind h in omega arith
 
 read_sum : (q s t m : ℕ) → 1 + max q m ≤ 1 + max q (max s (max t (max m 0)))
 read_sum q s t m = omega arith
 
 -- a call has no level but its own and those of its arguments
-called_deep : (callee : Callee) (args : to.Exprs) → call_depth (called_with callee args) ≤ 1 + args_depth args
-called_deep (to.shared requests.QueRead) (to.more queue (to.more (to.scalar sort) (to.more (to.scalar text) (to.more mode to.no_expr)))) = read_sum (depth queue) 0 0 (depth mode)
-called_deep callee args = omega arith
+given_deep : (heads : Heads) (callee : Callee) (args : to.Exprs) → call_depth (call_given heads callee args) ≤ 1 + args_depth args
+unfolding call_given
+given_deep heads callee args = one_more (args_depth (followed args (left_out heads callee (count_of args)))) (args_depth args) (followed_flat args (left_out heads callee (count_of args)) (left_flat (drop (count_of args) (firsts heads callee))))
 
-call_shallow : (callee : Callee) (args : to.Exprs) (x : ℕ) → args_depth args ≤ x → call_depth (called_with callee args) ≤ 1 + x
-call_shallow callee args x h = let c = called_deep callee args in omega arith
+called_deep : (heads : Heads) (callee : Callee) (args : to.Exprs) → call_depth (called_with heads callee args) ≤ 1 + args_depth args
+called_deep heads (to.shared requests.QueRead) (to.more queue (to.more (to.scalar sort) (to.more (to.scalar text) (to.more mode to.no_expr)))) = read_sum (depth queue) 0 0 (depth mode)
+called_deep heads callee args = given_deep heads callee args
+
+call_shallow : (heads : Heads) (callee : Callee) (args : to.Exprs) (x : ℕ) → args_depth args ≤ x → call_depth (called_with heads callee args) ≤ 1 + x
+call_shallow heads callee args x h = let c = called_deep heads callee args in omega arith
 
 mutual
   expr_shallow : (s : Scope) (e : from.Expr) → depth (bound_expr s e) ≤ deep e
@@ -52,7 +59,7 @@ mutual
   what_shallow s (from.name name) = omega arith
   what_shallow s (from.element name index) = one_more (depth (bound_expr s index)) (deep index) (expr_shallow s index)
   what_shallow s (from.call name args) =
-      call_shallow (callee_of (callee s name)) (bound_args s (takes_of (callee s name)) args) (args_deep args) (args_shallow s args (takes_of (callee s name)))
+      call_shallow (heads_in s.declared) (callee_of (callee s name)) (bound_args s args) (args_deep args) (args_shallow s args)
   what_shallow s (from.unary minus operand) = one_more (depth (bound_expr s operand)) (deep operand) (expr_shallow s operand)
   what_shallow s (from.chain first rest) = max_both (depth (bound_expr s first)) (links_depth (bound_links s rest)) (deep first) (links_deep rest) (expr_shallow s first) (links_shallow s rest)
 
@@ -61,10 +68,9 @@ mutual
   links_shallow s (from.operand at op right rest) = max_both (depth (bound_expr s right)) (links_depth (bound_links s rest)) (deep right) (links_deep rest) (expr_shallow s right) (links_shallow s rest)
   links_shallow s (from.hashes at count rest) = links_shallow s rest
 
-  args_shallow : (s : Scope) (args : from.Exprs) (takes : List Taken) → args_depth (bound_args s takes args) ≤ args_deep args
-  args_shallow s from.no_expr takes = left_flat takes
-  args_shallow s (from.more first rest) [] = max_both (depth (bound_expr s first)) (args_depth (bound_args s [] rest)) (deep first) (args_deep rest) (expr_shallow s first) (args_shallow s rest [])
-  args_shallow s (from.more first rest) (taken ∷ takes) = max_both (depth (bound_expr s first)) (args_depth (bound_args s takes rest)) (deep first) (args_deep rest) (expr_shallow s first) (args_shallow s rest takes)
+  args_shallow : (s : Scope) (args : from.Exprs) → args_depth (bound_args s args) ≤ args_deep args
+  args_shallow s from.no_expr = omega arith
+  args_shallow s (from.more first rest) = max_both (depth (bound_expr s first)) (args_depth (bound_args s rest)) (deep first) (args_deep rest) (expr_shallow s first) (args_shallow s rest)
 
 -- Statements
 
@@ -121,7 +127,7 @@ mutual
       in_front (stmt_depth (bound_assign s at (meaning s name) index value)) (max (index_deep index) (deep value)) (block_depth block) (assigned_shallow s at (meaning s name) index value)
   before_shallow s (from.call_of at name args) block =
       in_front (call_depth (bound_call s name args)) (1 + args_deep args) (block_depth block)
-      (call_shallow (callee_of (callee s name)) (bound_args s (takes_of (callee s name)) args) (args_deep args) (args_shallow s args (takes_of (callee s name))))
+      (call_shallow (heads_in s.declared) (callee_of (callee s name)) (bound_args s args) (args_deep args) (args_shallow s args))
   before_shallow s (from.choose at test body last) block =
       let behind = with_locals s (locals_in_block body) in
       in_front (1 + max (depth (bound_expr s test)) (max (block_depth (bound_block s body)) (other_depth (bound_other behind last)))) (1 + max (deep test) (max (block_deep body) (other_deep last))) (block_depth block)

@@ -2,6 +2,7 @@
 use Rattle.std.specs.Prelude.{◌≡◌, ℕ, zero, suc, ◌+◌, Bool, List, [], ◌∷◌, ◌++◌, Option, Some, None, is_some, slice_get}
 use Rattle.std.proofs.Common.{sym, ap, subst}
 use Rattle.std.proofs.lemmas.Bool.{true≢false}
+use Rattle.ci_base.specs.declared.bounds.TheConstants.{MOST_LEVELS}
 use Rattle.ci_tree.specs.declared.tree.TypeAt.{TypeAt}
 use Rattle.ci_tree.specs.Tree as tree
 use Rattle.ci_tree.specs.Tree.{Block, Item}
@@ -12,7 +13,7 @@ use Rattle.ci_names.specs.Laws.{AreDerived}
 
 -- it holds of each body that the grammar gives
 abbrev pub OfBodies : (Block → Type 0) → Type 0
-OfBodies P = (i : ℕ) (b : said.Body) → IsBody 32 b → P (tree_body i b)
+OfBodies P = (i : ℕ) (b : said.Body) → IsBody MOST_LEVELS b → P (tree_body i b)
 
 -- it holds of the body of each function among the items
 abbrev OfItems : (Block → Type 0) → List Item → Type 0
@@ -34,10 +35,10 @@ of_vars : (P : Block → Type 0) (global : Bool) (kind : TypeAt) (i : ℕ) (vs :
 of_vars P global kind i [] = tt
 of_vars P global kind i (v ∷ vs) = of_var P global kind (suc i) v (tree_others after_var (tree_var global kind) (after_var (suc i) v) vs) (of_vars P global kind (after_var (suc i) v) vs)
 
-of_function : (P : Block → Type 0) → OfBodies P → (private : Bool) (gives : Option TypeAt) (i : ℕ) (f : said.Function) → said.IsFunction 32 f → OfItems P (tree_function private gives i f ∷ [])
+of_function : (P : Block → Type 0) → OfBodies P → (private : Bool) (gives : Option TypeAt) (i : ℕ) (f : said.Function) → said.IsFunction MOST_LEVELS f → OfItems P (tree_function private gives i f ∷ [])
 of_function P of private gives i (said.function x ps b) h = (of (suc (said.after_parameters (suc (suc (suc i))) ps)) b h, tt)
 
-of_definition : (P : Block → Type 0) → OfBodies P → (i : ℕ) (d : said.Definition) → IsDefinition 32 d → OfItems P (tree_definition i d)
+of_definition : (P : Block → Type 0) → OfBodies P → (i : ℕ) (d : said.Definition) → IsDefinition MOST_LEVELS d → OfItems P (tree_definition i d)
 of_definition P of i said.blank h = tt
 of_definition P of i (said.plain_function f) h = of_function P of _ _ i f h
 of_definition P of i (said.typed_function t f) h = of_function P of _ _ (suc i) f h
@@ -46,7 +47,7 @@ of_definition P of i (said.seen_typed_function p t f) h = of_function P of _ _ (
 of_definition P of i (said.variables t v vs) h = of_var P _ _ (suc i) v _ (of_vars P _ _ (after_var (suc i) v) vs)
 of_definition P of i (said.scoped_variables g t v vs) h = of_var P _ _ (suc (suc i)) v _ (of_vars P _ _ (after_var (suc (suc i)) v) vs)
 
-of_file : (P : Block → Type 0) → OfBodies P → (i : ℕ) (ds : List said.Definition) → AreAll (IsDefinition 32) ds → OfItems P (tree_file i ds)
+of_file : (P : Block → Type 0) → OfBodies P → (i : ℕ) (ds : List said.Definition) → AreAll (IsDefinition MOST_LEVELS) ds → OfItems P (tree_file i ds)
 of_file P of i [] h = tt
 of_file P of i (d ∷ ds) h = items_append P (tree_definition i d) (tree_file (after_definition i d) ds) (of_definition P of i d h.0) (of_file P of (after_definition i d) ds h.1)
 

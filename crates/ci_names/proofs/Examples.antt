@@ -12,3 +12,4 @@ mod Limits
 mod Rooms
 mod Nesting
 mod Nodes
+mod Contents

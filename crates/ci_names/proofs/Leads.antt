@@ -16,7 +16,10 @@ use Rattle.ci_tree.specs.Sound.{Context, Signature, scalar_kind, array_kind, sig
 use Rattle.ci_names.specs.Given.{Taken, by_value, with_default, to_be_set, Called}
 use Rattle.ci_names.specs.Scopes.{Scope, Meaning, scalar, array, only_function, nothing, meaning, callee}
 use Rattle.ci_names.specs.Kinds.{plain_kind, element_kind, takes_of, gives_of, is_count, is_name_alone, is_taken, kind_of, what_kind, links_kind, are_taken}
-use Rattle.ci_names.specs.Binding.{scalar_of, array_of, callee_of, constant, left_out, called_with, bound_expr, bound_what, bound_links, bound_args}
+use Rattle.ci_tree.specs.BoundTests.{is_plain}
+use Rattle.ci_tree.specs.LeftOut.{Heads, constant, constants, count_of, call_given}
+use Rattle.ci_names.specs.Binding.{scalar_of, array_of, callee_of, heads_in, called_with, bound_expr, bound_what, bound_links, bound_args}
+use Rattle.ci_names.proofs.AllArguments.{default_of, all_args, Stands, given_all}
 
 no_some : {A : Type 0} {kind : Kind} → None ≡ Some kind → A
 no_some e = absurd (true≢false (sym (ap is_some e)))
@@ -96,21 +99,28 @@ read_takes = by_value Int ∷ to_be_set Int ∷ to_be_set Str ∷ by_value Int �
 abbrev pub read_called : Called
 read_called = record { callee = to.shared requests.QueRead; heading = record { takes = read_takes; gives = Some Int } }
 
--- a function whose arguments are taken by value
-pub record Plain (c : Context) (called : Called) : Type 0 where
+-- a function whose arguments are taken by value, among functions with these heads
+pub record Plain (c : Context) (heads : Heads) (called : Called) : Type 0 where
   pub right : list_all is_right called.heading.takes ≡ true
   pub signed : signature c called.callee ≡ Some (record { takes = map taken_kind called.heading.takes; gives = called.heading.gives })
-  pub same : (args : to.Exprs) → called_with called.callee args ≡ to.call called.callee args
+  pub same : (args : to.Exprs) → called_with heads called.callee args ≡ call_given heads called.callee args
+  pub firsts : Stands heads called.callee called.heading.takes
+  pub plain : is_plain called.callee ≡ true
+
+-- a call of it has all arguments
+pub plain_all : (c : Context) (s : Scope) (called : Called) → Plain c (heads_in s.declared) called → (args : from.Exprs) →
+    called_with (heads_in s.declared) called.callee (bound_args s args) ≡ to.call called.callee (count_of (bound_args s args)) (all_args s called.heading.takes args)
+plain_all c s called plain args = plain.same (bound_args s args) ∙ given_all (heads_in s.declared) called.callee s called.heading.takes args plain.firsts
 
 -- what a name means that is called is there
-abbrev pub IsThere : Context → Called → Type 0
-IsThere c called = Plain c called ⊎ (called ≡ read_called)
+abbrev pub IsThere : Context → Heads → Called → Type 0
+IsThere c heads called = Plain c heads called ⊎ (called ≡ read_called)
 
 -- each name means something that is there, of the kind that it has
 pub record Fits (c : Context) (s : Scope) : Type 0 where
   pub scalars : (name : List ℕ) (of : to.Scalar) (kind : Kind) → meaning s name ≡ scalar of kind → scalar_kind c of ≡ Some kind
   pub arrays : (name : List ℕ) (a : ℕ) (kind : Kind) → meaning s name ≡ array a kind → array_kind c a ≡ Some kind
-  pub calls : (name : List ℕ) (called : Called) → callee s name ≡ Some called → IsThere c called
+  pub calls : (name : List ℕ) (called : Called) → callee s name ≡ Some called → IsThere c (heads_in s.declared) called
 
 pub plain_kept : (c : Context) (s : Scope) → Fits c s → (name : List ℕ) (m : Meaning) → meaning s name ≡ m → Leads (plain_kind m) (scalar_kind c (scalar_of m))
 plain_kept c s fits name (scalar of kind) h other e = fits.scalars name of kind h ∙ e
@@ -128,11 +138,11 @@ same_has : (kind : Kind) (v : Value) (c : Context) → same_kind kind (kind_of_v
 same_has kind (values.Int n) c h = h
 same_has kind (values.Str t) c h = h
 
-left_out_kept : (c : Context) (takes : List Taken) → list_all is_right takes ≡ true → is_count takes from.no_expr ≡ true → have_kinds c (map taken_kind takes) (left_out takes) ≡ true
+left_out_kept : (c : Context) (takes : List Taken) → list_all is_right takes ≡ true → is_count takes from.no_expr ≡ true → have_kinds c (map taken_kind takes) (constants (map default_of takes)) ≡ true
 left_out_kept c [] r h = refl
 left_out_kept c ((by_value kind) ∷ takes) r h = absurd (true≢false (sym h))
 left_out_kept c ((with_default kind v) ∷ takes) r h =
-    both_true (has_kind kind (sound.kind_of c (constant v))) (have_kinds c (map taken_kind takes) (left_out takes))
+    both_true (has_kind kind (sound.kind_of c (constant v))) (have_kinds c (map taken_kind takes) (constants (map default_of takes)))
     (same_has kind v c (left_true (same_kind kind (kind_of_value v)) (list_all is_right takes) r))
     (left_out_kept c takes (right_true (same_kind kind (kind_of_value v)) (list_all is_right takes) r) h)
 left_out_kept c ((to_be_set kind) ∷ takes) r h = absurd (true≢false (sym h))
@@ -162,15 +172,15 @@ IsRead c what =
     × (is_call c (to.que_read queue sort text mode) ≡ true)
 
 -- its four arguments
-read_of : (c : Context) (queue a b mode : to.Expr) (sort text : to.Scalar) → a ≡ to.scalar sort → b ≡ to.scalar text →
+read_of : (c : Context) (heads : Heads) (queue a b mode : to.Expr) (sort text : to.Scalar) → a ≡ to.scalar sort → b ≡ to.scalar text →
     has_kind Int (sound.kind_of c queue) ≡ true → has_kind Int (scalar_kind c sort) ≡ true → has_kind Str (scalar_kind c text) ≡ true → has_kind Int (sound.kind_of c mode) ≡ true →
-    IsRead c (called_with (to.shared requests.QueRead) (to.more queue (to.more a (to.more b (to.more mode to.no_expr)))))
-read_of c queue a b mode sort text ha hb hq hs ht hm = (
+    IsRead c (called_with heads (to.shared requests.QueRead) (to.more queue (to.more a (to.more b (to.more mode to.no_expr)))))
+read_of c heads queue a b mode sort text ha hb hq hs ht hm = (
   queue,
   sort,
   text,
   mode,
-  ap₂ (λ x y. called_with (to.shared requests.QueRead) (to.more queue (to.more x (to.more y (to.more mode to.no_expr))))) ha hb,
+  ap₂ (λ x y. called_with heads (to.shared requests.QueRead) (to.more queue (to.more x (to.more y (to.more mode to.no_expr))))) ha hb,
   both_true (has_kind Int (sound.kind_of c queue) && has_kind Int (scalar_kind c sort) && has_kind Str (scalar_kind c text)) (has_kind Int (sound.kind_of c mode))
       (both_true (has_kind Int (sound.kind_of c queue) && has_kind Int (scalar_kind c sort)) (has_kind Str (scalar_kind c text))
       (both_true (has_kind Int (sound.kind_of c queue)) (has_kind Int (scalar_kind c sort)) hq hs) ht) hm,
@@ -192,14 +202,15 @@ pub given_if : (b : Bool) (a : Option Kind) (kind : Kind) → (if b then a else 
 given_if true a kind h = (refl, h)
 given_if false a kind h = no_some h
 
-plain_call : (c : Context) (called : Called) → Plain c called → (args : to.Exprs) → have_kinds c (map taken_kind called.heading.takes) args ≡ true → is_call c (called_with called.callee args) ≡ true
-plain_call c called plain args h =
-    ap (is_call c) (plain.same args)
-    ∙ ap (λ x. is_some x && have_kinds c (sound.takes_of x) args) plain.signed
+plain_call : (c : Context) (s : Scope) (called : Called) → Plain c (heads_in s.declared) called → (args : from.Exprs) → have_kinds c (map taken_kind called.heading.takes) (all_args s called.heading.takes args) ≡ true →
+    is_call c (called_with (heads_in s.declared) called.callee (bound_args s args)) ≡ true
+plain_call c s called plain args h =
+    ap (is_call c) (plain_all c s called plain args)
+    ∙ ap (λ x. is_some x && have_kinds c (sound.takes_of x) (all_args s called.heading.takes args)) plain.signed
     ∙ h
 
-plain_gives : (c : Context) (called : Called) → Plain c called → (args : to.Exprs) → Leads called.heading.gives (call_kind c (called_with called.callee args))
-plain_gives c called plain args kind e = ap (call_kind c) (plain.same args) ∙ ap sound.gives_of plain.signed ∙ e
+plain_gives : (c : Context) (s : Scope) (called : Called) → Plain c (heads_in s.declared) called → (args : from.Exprs) → Leads called.heading.gives (call_kind c (called_with (heads_in s.declared) called.callee (bound_args s args)))
+plain_gives c s called plain args kind e = ap (call_kind c) (plain_all c s called plain args) ∙ ap sound.gives_of plain.signed ∙ e
 
 -- where a call is right and gives this kind
 call_gives : (c : Context) (what : to.Call) (kind : Kind) → is_call c what ≡ true → call_kind c what ≡ Some kind → sound.kind_of c (to.called what) ≡ Some kind
@@ -213,37 +224,37 @@ argument_kept c s (to_be_set kind) e leads r h = absurd (true≢false (sym r))
 
 -- what is known of the arguments of a call
 abbrev pub ArgsKept : Context → Scope → from.Exprs → Type 0
-ArgsKept c s args = (takes : List Taken) → list_all is_right takes ≡ true → is_count takes args ≡ true → are_taken s takes args ≡ true → have_kinds c (map taken_kind takes) (bound_args s takes args) ≡ true
+ArgsKept c s args = (takes : List Taken) → list_all is_right takes ≡ true → is_count takes args ≡ true → are_taken s takes args ≡ true → have_kinds c (map taken_kind takes) (all_args s takes args) ≡ true
 
 abbrev pub ReadKept : Context → Scope → from.Exprs → Type 0
-ReadKept c s args = is_count read_takes args ≡ true → are_taken s read_takes args ≡ true → IsRead c (called_with (to.shared requests.QueRead) (bound_args s read_takes args))
+ReadKept c s args = is_count read_takes args ≡ true → are_taken s read_takes args ≡ true → IsRead c (called_with (heads_in s.declared) (to.shared requests.QueRead) (bound_args s args))
 
 -- a call whose arguments can stand is right, and gives what its function gives
 abbrev pub IsKept : Context → Scope → from.Exprs → Called → Type 0
 IsKept c s args called =
     Takes s called.heading.takes args →
-    (is_call c (called_with called.callee (bound_args s called.heading.takes args)) ≡ true) × Leads called.heading.gives (call_kind c (called_with called.callee (bound_args s called.heading.takes args)))
+    (is_call c (called_with (heads_in s.declared) called.callee (bound_args s args)) ≡ true) × Leads called.heading.gives (call_kind c (called_with (heads_in s.declared) called.callee (bound_args s args)))
 
 read_is_kept : (c : Context) (s : Scope) (args : from.Exprs) → ReadKept c s args → IsKept c s args read_called
 read_is_kept c s args r h =
     let found = r (left_true (is_count read_takes args) (are_taken s read_takes args) h) (right_true (is_count read_takes args) (are_taken s read_takes args) h) in
     (ap (is_call c) found.4 ∙ found.5, λ kind e. ap (call_kind c) found.4 ∙ e)
 
-pub call_kept : (c : Context) (s : Scope) (args : from.Exprs) (called : Called) → IsThere c called → ArgsKept c s args → ReadKept c s args → IsKept c s args called
+pub call_kept : (c : Context) (s : Scope) (args : from.Exprs) (called : Called) → IsThere c (heads_in s.declared) called → ArgsKept c s args → ReadKept c s args → IsKept c s args called
 call_kept c s args called (inl plain) a r h = (
-  plain_call c called plain (bound_args s called.heading.takes args)
+  plain_call c s called plain args
       (a called.heading.takes plain.right (left_true (is_count called.heading.takes args) (are_taken s called.heading.takes args) h) (right_true (is_count called.heading.takes args) (are_taken s called.heading.takes args) h)),
-  plain_gives c called plain (bound_args s called.heading.takes args),
+  plain_gives c s called plain args,
 )
 call_kept c s args called (inr read) a r h = subst (IsKept c s args) (sym read) (read_is_kept c s args r) h
 
-called_kept : (c : Context) (s : Scope) (args : from.Exprs) (o : Option Called) → ((called : Called) → o ≡ Some called → IsThere c called) → ArgsKept c s args → ReadKept c s args →
-    Leads (if is_count (takes_of o) args && are_taken s (takes_of o) args then gives_of o else None) (sound.kind_of c (to.called (called_with (callee_of o) (bound_args s (takes_of o) args))))
+called_kept : (c : Context) (s : Scope) (args : from.Exprs) (o : Option Called) → ((called : Called) → o ≡ Some called → IsThere c (heads_in s.declared) called) → ArgsKept c s args → ReadKept c s args →
+    Leads (if is_count (takes_of o) args && are_taken s (takes_of o) args then gives_of o else None) (sound.kind_of c (to.called (called_with (heads_in s.declared) (callee_of o) (bound_args s args))))
 called_kept c s args None there a r kind e = none_if (is_count [] args && are_taken s [] args) e
 called_kept c s args (Some called) there a r kind e =
     let given = given_if (is_count called.heading.takes args && are_taken s called.heading.takes args) called.heading.gives kind e in
     let kept = call_kept c s args called (there called refl) a r given.0 in
-    call_gives c (called_with called.callee (bound_args s called.heading.takes args)) kind kept.0 (kept.1 kind given.1)
+    call_gives c (called_with (heads_in s.declared) called.callee (bound_args s args)) kind kept.0 (kept.1 kind given.1)
 
 mutual
   pub expr_kept : (c : Context) (s : Scope) → Fits c s → (e : from.Expr) → Leads (kind_of s e) (sound.kind_of c (bound_expr s e))
@@ -271,16 +282,16 @@ mutual
   links_kept c s fits left left' (from.hashes at count rest) h kind e = links_kept c s fits (formed left) (formed left') rest (formed_leads left left' h) kind e
 
   pub args_kept : (c : Context) (s : Scope) → Fits c s → (takes : List Taken) (args : from.Exprs) → list_all is_right takes ≡ true → is_count takes args ≡ true → are_taken s takes args ≡ true →
-      have_kinds c (map taken_kind takes) (bound_args s takes args) ≡ true
+      have_kinds c (map taken_kind takes) (all_args s takes args) ≡ true
   args_kept c s fits takes from.no_expr r n h = left_out_kept c takes r n
   args_kept c s fits [] (from.more first rest) r n h = absurd (true≢false (sym h))
   args_kept c s fits (taken ∷ takes) (from.more first rest) r n h =
-      both_true (has_kind (taken_kind taken) (sound.kind_of c (bound_expr s first))) (have_kinds c (map taken_kind takes) (bound_args s takes rest))
+      both_true (has_kind (taken_kind taken) (sound.kind_of c (bound_expr s first))) (have_kinds c (map taken_kind takes) (all_args s takes rest))
       (argument_kept c s taken first (expr_kept c s fits first) (left_true (is_right taken) (list_all is_right takes) r) (left_true (is_taken taken first (kind_of s first)) (are_taken s takes rest) h))
       (args_kept c s fits takes rest (right_true (is_right taken) (list_all is_right takes) r) n (right_true (is_taken taken first (kind_of s first)) (are_taken s takes rest) h))
 
   pub read_kept : (c : Context) (s : Scope) → Fits c s → (args : from.Exprs) → is_count read_takes args ≡ true → are_taken s read_takes args ≡ true →
-      IsRead c (called_with (to.shared requests.QueRead) (bound_args s read_takes args))
+      IsRead c (called_with (heads_in s.declared) (to.shared requests.QueRead) (bound_args s args))
   read_kept c s fits from.no_expr n h = absurd (true≢false (sym n))
   read_kept c s fits (from.more queue from.no_expr) n h = absurd (true≢false (sym n))
   read_kept c s fits (from.more queue (from.more a from.no_expr)) n h = absurd (true≢false (sym n))
@@ -291,7 +302,7 @@ mutual
       let last = right_true (is_name_alone a && has_kind Int (kind_of s a)) ((is_name_alone b && has_kind Str (kind_of s b)) && (has_kind Int (kind_of s mode) && true)) tail in
       let sort = alone_kept c s fits Int a (left_true (is_name_alone a && has_kind Int (kind_of s a)) ((is_name_alone b && has_kind Str (kind_of s b)) && (has_kind Int (kind_of s mode) && true)) tail) in
       let text = alone_kept c s fits Str b (left_true (is_name_alone b && has_kind Str (kind_of s b)) (has_kind Int (kind_of s mode) && true) last) in
-      read_of c (bound_expr s queue) (bound_expr s a) (bound_expr s b) (bound_expr s mode) sort.0 text.0 sort.1 text.1
+      read_of c (heads_in s.declared) (bound_expr s queue) (bound_expr s a) (bound_expr s b) (bound_expr s mode) sort.0 text.0 sort.1 text.1
       (has_leads Int (kind_of s queue) (sound.kind_of c (bound_expr s queue)) (expr_kept c s fits queue) (left_true (has_kind Int (kind_of s queue)) ((is_name_alone a && has_kind Int (kind_of s a)) && ((is_name_alone b && has_kind Str (kind_of s b)) && (has_kind Int (kind_of s mode) && true))) h))
       sort.2 text.2
       (has_leads Int (kind_of s mode) (sound.kind_of c (bound_expr s mode)) (expr_kept c s fits mode) (left_true (has_kind Int (kind_of s mode)) true (right_true (is_name_alone b && has_kind Str (kind_of s b)) (has_kind Int (kind_of s mode) && true) last)))

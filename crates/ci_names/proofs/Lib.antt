@@ -1,5 +1,9 @@
 mod Examples
+pub mod AllArguments
 pub mod Bodies
+pub mod CalledTests
+pub mod Cells
+pub mod Contents
 pub mod Counted
 pub mod Counts
 pub mod Deep
@@ -10,8 +14,10 @@ pub mod Free
 pub mod Leads
 pub mod Maxima
 pub mod Meant
+pub mod Named
 pub mod Nested
 pub mod Ordered
+pub mod Passing
 pub mod Projects
 pub mod Small
 pub mod Tall

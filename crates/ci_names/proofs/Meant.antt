@@ -1,5 +1,5 @@
 -- Each name means something that is there, of the kind that it has.
-use Rattle.std.specs.Prelude.{◌≡◌, refl, ℕ, zero, suc, ◌+◌, Bool, true, false, if◌then◌else◌, List, [], ◌∷◌, ◌++◌, length, map, take, flat_map, replicate, find, codes, Option, Some, None, is_some, option_map, option_and_then, unwrap_or, slice_get}
+use Rattle.std.specs.Prelude.{◌≡◌, refl, ℕ, zero, suc, ◌+◌, Bool, true, false, if◌then◌else◌, List, [], ◌∷◌, ◌++◌, length, map, take, drop, flat_map, replicate, find, codes, Option, Some, None, is_some, option_map, option_and_then, unwrap_or, slice_get}
 use Rattle.std.specs.Option.{option_or}
 use Rattle.std.specs.List.{list_all}
 use Rattle.std.specs.Str.{str_eq_ignore_ascii_case}
@@ -23,9 +23,12 @@ use Rattle.ci_tree.specs.declared.tree.Const.{Const}
 use Rattle.ci_tree.specs.Bound as to
 use Rattle.ci_tree.specs.Sound.{Context, scalar_kind, array_kind, function_signature}
 use Rattle.ci_names.specs.Given.{by_value, with_default, Called, Given, private_named, shared_named, private_functions, shared_functions, given_named}
-use Rattle.ci_names.specs.Declarations.{Function, Variable, Declared, each_behind, kind_of_type, taken, heading_of, called_function, function_number, function_named, size_said, is_array_said, size_of, is_array, kind_of_variable, cells_of, arrays_of, variable_number}
+use Rattle.ci_names.specs.Declarations.{Function, Variable, Declared, each_behind, kind_of_type, const_value, taken, heading_of, called_function, function_number, function_named, size_said, is_array_said, size_of, is_array, kind_of_variable, cells_of, arrays_of, variable_number}
 use Rattle.ci_names.specs.Scopes.{Scope, Local, Meaning, scalar, array, only_function, nothing, local_named, variable_behind, variable_at, variable_named, no_variable, meaning, callee}
-use Rattle.ci_names.specs.Binding.{called_with, bound_param, bound_function, cell_of, bound_cells, bound_array, bound_declared}
+use Rattle.ci_tree.specs.BoundTests.{is_not_read}
+use Rattle.ci_tree.specs.LeftOut.{Heads, firsts_of, shared_firsts, constants, call_given}
+use Rattle.ci_names.specs.Binding.{heads_in, called_with, bound_param, bound_function, cell_of, bound_cells, bound_array, bound_declared}
+use Rattle.ci_names.proofs.AllArguments.{default_of, none_left}
 use Rattle.ci_names.proofs.Leads.{IsThere, Fits, taken_kind, is_right}
 
 abbrev pub kinds : List Local → List Kind
@@ -172,108 +175,112 @@ all_by_value : (ks : List Kind) → list_all is_right (map by_value ks) ≡ true
 all_by_value [] = refl
 all_by_value (k ∷ ks) = all_by_value ks
 
-private_there : (c : Context) (name : List ℕ) (p : PrivateName) → IsThere c (private_named name p).called
-private_there c name p = inl (record {
+private_there : (c : Context) (heads : Heads) (name : List ℕ) (p : PrivateName) → IsThere c heads (private_named name p).called
+private_there c heads name p = inl (record {
   right = all_by_value (private_takes p);
   signed = ap (λ ks. Some (record { takes = ks; gives = (private_named name p).called.heading.gives })) (sym (map_by_value (private_takes p)));
   same = λ args. refl;
+  firsts = none_left (private_takes p);
+  plain = refl;
 })
 
-shared_there : (c : Context) (name : List ℕ) (q : SharedName) → ((args : to.Exprs) → called_with (to.shared q) args ≡ to.call (to.shared q) args) → IsThere c (shared_named name q).called
-shared_there c name q same = inl (record {
+shared_there : (c : Context) (heads : Heads) (name : List ℕ) (q : SharedName) → ((args : to.Exprs) → called_with heads (to.shared q) args ≡ call_given heads (to.shared q) args) → shared_firsts q ≡ [] → is_not_read q ≡ true → IsThere c heads (shared_named name q).called
+shared_there c heads name q same none plain = inl (record {
   right = all_by_value (shared_takes q);
   signed = ap (λ ks. Some (record { takes = ks; gives = Some Int })) (sym (map_by_value (shared_takes q)));
   same = same;
+  firsts = λ n. ap (λ vs. constants (drop n vs)) none ∙ none_left (shared_takes q) n;
+  plain = plain;
 })
 
-task_hnd_there : (c : Context) → IsThere c (record { callee = to.shared requests.TaskHnd; heading = record { takes = with_default Str (values.Str []) ∷ []; gives = Some Int } })
-task_hnd_there c = inl (record { right = refl; signed = refl; same = λ args. refl })
+task_hnd_there : (c : Context) (heads : Heads) → IsThere c heads (record { callee = to.shared requests.TaskHnd; heading = record { takes = with_default Str (values.Str []) ∷ []; gives = Some Int } })
+task_hnd_there c heads = inl (record { right = refl; signed = refl; same = λ args. refl; firsts = λ n. refl; plain = refl })
 
-abbrev AllThere : Context → List Given → Type 0
-AllThere c [] = Unit {0}
-AllThere c (g ∷ gs) = IsThere c g.called × AllThere c gs
+abbrev AllThere : Context → Heads → List Given → Type 0
+AllThere c heads [] = Unit {0}
+AllThere c heads (g ∷ gs) = IsThere c heads g.called × AllThere c heads gs
 
-all_there : (c : Context) → AllThere c (private_functions ++ shared_functions)
-all_there c = (
-  private_there c (codes "StrLength") names.StrLength,
+all_there : (c : Context) (heads : Heads) → AllThere c heads (private_functions ++ shared_functions)
+all_there c heads = (
+  private_there c heads (codes "StrLength") names.StrLength,
   (
-    private_there c (codes "StrLeft") names.StrLeft,
+    private_there c heads (codes "StrLeft") names.StrLeft,
     (
-      private_there c (codes "StrRight") names.StrRight,
+      private_there c heads (codes "StrRight") names.StrRight,
       (
-        private_there c (codes "StrMid") names.StrMid,
+        private_there c heads (codes "StrMid") names.StrMid,
         (
-          private_there c (codes "StrSearch") names.StrSearch,
+          private_there c heads (codes "StrSearch") names.StrSearch,
           (
-            private_there c (codes "StrUpper") names.StrUpper,
+            private_there c heads (codes "StrUpper") names.StrUpper,
             (
-              private_there c (codes "StrLower") names.StrLower,
+              private_there c heads (codes "StrLower") names.StrLower,
               (
-                private_there c (codes "StrTrim") names.StrTrim,
+                private_there c heads (codes "StrTrim") names.StrTrim,
                 (
-                  private_there c (codes "StrFill") names.StrFill,
+                  private_there c heads (codes "StrFill") names.StrFill,
                   (
-                    private_there c (codes "StrToInt") names.StrToInt,
+                    private_there c heads (codes "StrToInt") names.StrToInt,
                     (
-                      private_there c (codes "IntToStr") names.IntToStr,
+                      private_there c heads (codes "IntToStr") names.IntToStr,
                       (
-                        private_there c (codes "StrGetChar") names.StrGetChar,
+                        private_there c heads (codes "StrGetChar") names.StrGetChar,
                         (
-                          private_there c (codes "CharToStr") names.CharToStr,
+                          private_there c heads (codes "CharToStr") names.CharToStr,
                           (
-                            private_there c (codes "Abs") names.Abs,
+                            private_there c heads (codes "Abs") names.Abs,
                             (
-                              private_there c (codes "Max") names.Max,
+                              private_there c heads (codes "Max") names.Max,
                               (
-                                private_there c (codes "Min") names.Min,
+                                private_there c heads (codes "Min") names.Min,
                                 (
-                                  private_there c (codes "Assert") names.Assert,
+                                  private_there c heads (codes "Assert") names.Assert,
                                   (
-                                    private_there c (codes "ErrSet") names.ErrSet,
+                                    private_there c heads (codes "ErrSet") names.ErrSet,
                                     (
-                                      private_there c (codes "IsError") names.IsError,
+                                      private_there c heads (codes "IsError") names.IsError,
                                       (
-                                        shared_there c (codes "TaskNew") requests.TaskNew (λ args. refl),
+                                        shared_there c heads (codes "TaskNew") requests.TaskNew (λ args. refl) refl refl,
                                         (
-                                          shared_there c (codes "TaskKill") requests.TaskKill (λ args. refl),
+                                          shared_there c heads (codes "TaskKill") requests.TaskKill (λ args. refl) refl refl,
                                           (
-                                            shared_there c (codes "TaskSuspend") requests.TaskSuspend (λ args. refl),
+                                            shared_there c heads (codes "TaskSuspend") requests.TaskSuspend (λ args. refl) refl refl,
                                             (
-                                              shared_there c (codes "TaskResume") requests.TaskResume (λ args. refl),
+                                              shared_there c heads (codes "TaskResume") requests.TaskResume (λ args. refl) refl refl,
                                               (
-                                                task_hnd_there c,
+                                                task_hnd_there c heads,
                                                 (
-                                                  shared_there c (codes "Sleep") requests.Sleep (λ args. refl),
+                                                  shared_there c heads (codes "Sleep") requests.Sleep (λ args. refl) refl refl,
                                                   (
-                                                    shared_there c (codes "SleepMS") requests.SleepMS (λ args. refl),
+                                                    shared_there c heads (codes "SleepMS") requests.SleepMS (λ args. refl) refl refl,
                                                     (
-                                                      shared_there c (codes "SemOpen") requests.SemOpen (λ args. refl),
+                                                      shared_there c heads (codes "SemOpen") requests.SemOpen (λ args. refl) refl refl,
                                                       (
-                                                        shared_there c (codes "SemWait") requests.SemWait (λ args. refl),
+                                                        shared_there c heads (codes "SemWait") requests.SemWait (λ args. refl) refl refl,
                                                         (
-                                                          shared_there c (codes "SemSignal") requests.SemSignal (λ args. refl),
+                                                          shared_there c heads (codes "SemSignal") requests.SemSignal (λ args. refl) refl refl,
                                                           (
-                                                            shared_there c (codes "SemClose") requests.SemClose (λ args. refl),
+                                                            shared_there c heads (codes "SemClose") requests.SemClose (λ args. refl) refl refl,
                                                             (
-                                                              shared_there c (codes "QueOpen") requests.QueOpen (λ args. refl),
+                                                              shared_there c heads (codes "QueOpen") requests.QueOpen (λ args. refl) refl refl,
                                                               (
-                                                                shared_there c (codes "QueWrite") requests.QueWrite (λ args. refl),
+                                                                shared_there c heads (codes "QueWrite") requests.QueWrite (λ args. refl) refl refl,
                                                                 (
                                                                   inr refl,
                                                                   (
-                                                                    shared_there c (codes "QueLength") requests.QueLength (λ args. refl),
+                                                                    shared_there c heads (codes "QueLength") requests.QueLength (λ args. refl) refl refl,
                                                                     (
-                                                                      shared_there c (codes "QueClose") requests.QueClose (λ args. refl),
+                                                                      shared_there c heads (codes "QueClose") requests.QueClose (λ args. refl) refl refl,
                                                                       (
-                                                                        shared_there c (codes "EnterCriticalSection") requests.Enter (λ args. refl),
+                                                                        shared_there c heads (codes "EnterCriticalSection") requests.Enter (λ args. refl) refl refl,
                                                                         (
-                                                                          shared_there c (codes "LeaveCriticalSection") requests.Leave (λ args. refl),
+                                                                          shared_there c heads (codes "LeaveCriticalSection") requests.Leave (λ args. refl) refl refl,
                                                                           (
-                                                                            shared_there c (codes "TraceMsg") requests.Trace (λ args. refl),
+                                                                            shared_there c heads (codes "TraceMsg") requests.Trace (λ args. refl) refl refl,
                                                                             (
-                                                                              shared_there c (codes "SysTime") requests.SysTime (λ args. refl),
+                                                                              shared_there c heads (codes "SysTime") requests.SysTime (λ args. refl) refl refl,
                                                                               (
-                                                                                shared_there c (codes "Halt") requests.End (λ args. refl),
+                                                                                shared_there c heads (codes "Halt") requests.End (λ args. refl) refl refl,
                                                                                 tt,
                                                                               ),
                                                                             ),
@@ -317,16 +324,16 @@ all_there c = (
 )
 
 -- all that it gives is there
-abbrev AreThere : Context → Option Called → Type 0
-AreThere c o = (called : Called) → o ≡ Some called → IsThere c called
+abbrev AreThere : Context → Heads → Option Called → Type 0
+AreThere c heads o = (called : Called) → o ≡ Some called → IsThere c heads called
 
-find_if : (c : Context) (g : Given) (b : Bool) (o : Option Given) → IsThere c g.called → AreThere c (option_map (λ (x : Given). x.called) o) → AreThere c (option_map (λ (x : Given). x.called) (if b then Some g else o))
-find_if c g true o h next called e = subst (IsThere c) (some_same e) h
-find_if c g false o h next called e = next called e
+find_if : (c : Context) (heads : Heads) (g : Given) (b : Bool) (o : Option Given) → IsThere c heads g.called → AreThere c heads (option_map (λ (x : Given). x.called) o) → AreThere c heads (option_map (λ (x : Given). x.called) (if b then Some g else o))
+find_if c heads g true o h next called e = subst (IsThere c heads) (some_same e) h
+find_if c heads g false o h next called e = next called e
 
-found_there : (c : Context) (test : Given → Bool) (gs : List Given) → AllThere c gs → AreThere c (option_map (λ (g : Given). g.called) (find test gs))
-found_there c test [] all = λ called e. none_some e
-found_there c test (g ∷ gs) all = find_if c g (test g) (find test gs) all.0 (found_there c test gs all.1)
+found_there : (c : Context) (heads : Heads) (test : Given → Bool) (gs : List Given) → AllThere c heads gs → AreThere c heads (option_map (λ (g : Given). g.called) (find test gs))
+found_there c heads test [] all = λ called e. none_some e
+found_there c heads test (g ∷ gs) all = find_if c heads g (test g) (find test gs) all.0 (found_there c heads test gs all.1)
 
 taken_kinds : (ps : List Param) → map (λ (p : to.Param). p.kind) (map bound_param ps) ≡ map taken_kind (map (λ (p : Param). taken (kind_of_type p.kind.name) p.first) ps)
 taken_kinds [] = refl
@@ -336,7 +343,16 @@ taken_kinds (p ∷ ps) = ap₂ (λ k ks. k ∷ ks) (one_kind (kind_of_type p.kin
     one_kind kind None = refl
     one_kind kind (Some first) = refl
 
-function_there : (d : Declared) (c : Context) (s : Scope) → Stands d c s → (n : ℕ) (f : Function) → slice_get d.functions n ≡ Some f → IsThere c (record { callee = to.function n; heading = heading_of f })
+-- the first values of parameters stand for what is taken
+firsts_taken : (ps : List Param) → map (λ (p : to.Param). p.first) (map bound_param ps) ≡ map default_of (map (λ (p : Param). taken (kind_of_type p.kind.name) p.first) ps)
+firsts_taken [] = refl
+firsts_taken (p ∷ ps) = ap₂ (λ o os. o ∷ os) (one_first (kind_of_type p.kind.name) p.first) (firsts_taken ps)
+  where
+    one_first : (kind : Kind) (first : Option Const) → option_map const_value first ≡ default_of (taken kind first)
+    one_first kind None = refl
+    one_first kind (Some first) = refl
+
+function_there : (d : Declared) (c : Context) (s : Scope) → Stands d c s → (n : ℕ) (f : Function) → slice_get d.functions n ≡ Some f → IsThere c (heads_in d) (record { callee = to.function n; heading = heading_of f })
 function_there d c s stands n f h = inl (record {
   right = stands.defaults n f h;
   signed =
@@ -344,27 +360,30 @@ function_there d c s stands n f h = inl (record {
       ∙ ap (option_map function_signature) (slice_get-map (bound_function d) d.functions n ∙ ap (option_map (bound_function d)) h)
       ∙ ap (λ ks. Some (record { takes = ks; gives = (heading_of f).gives })) (taken_kinds f.params);
   same = λ args. refl;
+  firsts = λ k. ap (λ vs. constants (drop k vs))
+      (ap firsts_of (slice_get-map (λ (g : Function). map bound_param g.params) d.functions n ∙ ap (option_map (λ (g : Function). map bound_param g.params)) h) ∙ firsts_taken f.params);
+  plain = refl;
 })
 
 called_there : (d : Declared) (c : Context) (s : Scope) → Stands d c s → (n : ℕ) (o : Option Function) → slice_get d.functions n ≡ o →
-    AreThere c (option_map (λ (f : Function). record { callee = to.function n; heading = heading_of f }) o)
+    AreThere c (heads_in d) (option_map (λ (f : Function). record { callee = to.function n; heading = heading_of f }) o)
 called_there d c s stands n None h called e = none_some e
-called_there d c s stands n (Some f) h called e = subst (IsThere c) (some_same e) (function_there d c s stands n f h)
+called_there d c s stands n (Some f) h called e = subst (IsThere c (heads_in d)) (some_same e) (function_there d c s stands n f h)
 
-number_there : (d : Declared) (c : Context) (s : Scope) → Stands d c s → (o : Option ℕ) → AreThere c (option_and_then (called_function d.functions) o)
+number_there : (d : Declared) (c : Context) (s : Scope) → Stands d c s → (o : Option ℕ) → AreThere c (heads_in d) (option_and_then (called_function d.functions) o)
 number_there d c s stands None called e = none_some e
 number_there d c s stands (Some n) called e = called_there d c s stands n (slice_get d.functions n) refl called e
 
-there_or : (c : Context) (a b : Option Called) → AreThere c a → AreThere c b → AreThere c (option_or a b)
-there_or c (Some x) b ha hb called e = ha called e
-there_or c None b ha hb called e = hb called e
+there_or : (c : Context) (heads : Heads) (a b : Option Called) → AreThere c heads a → AreThere c heads b → AreThere c heads (option_or a b)
+there_or c heads (Some x) b ha hb called e = ha called e
+there_or c heads None b ha hb called e = hb called e
 
-callee_there : (d : Declared) (c : Context) (s : Scope) → Stands d c s → (name : List ℕ) → AreThere c (callee s name)
+callee_there : (d : Declared) (c : Context) (s : Scope) → Stands d c s → (name : List ℕ) → AreThere c (heads_in s.declared) (callee s name)
 callee_there d c s stands name =
-    subst (λ x. AreThere c (function_named x s.file name)) (sym stands.declared)
-    (there_or c (option_and_then (called_function d.functions) (function_number d.functions s.file name)) (given_named name)
+    subst (λ x. AreThere c (heads_in x) (function_named x s.file name)) (sym stands.declared)
+    (there_or c (heads_in d) (option_and_then (called_function d.functions) (function_number d.functions s.file name)) (given_named name)
     (number_there d c s stands (function_number d.functions s.file name))
-    (found_there c (λ g. str_eq_ignore_ascii_case g.name name) (private_functions ++ shared_functions) (all_there c)))
+    (found_there c (heads_in d) (λ g. str_eq_ignore_ascii_case g.name name) (private_functions ++ shared_functions) (all_there c (heads_in d))))
 
 pub fits : (d : Declared) (c : Context) (s : Scope) → Stands d c s → Fits c s
 fits d c s stands = record {

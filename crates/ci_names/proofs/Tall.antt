@@ -2,6 +2,7 @@
 use Rattle.std.specs.Prelude.{◌≡◌, refl, ℕ, zero, suc, ◌+◌, ◌≤◌, max, List, [], ◌∷◌, Option, Some, None}
 use Rattle.std.proofs.Common.{sym, subst}
 use native.Mathlib.Omega.{arith}
+use Rattle.ci_base.specs.declared.bounds.TheConstants.{MOST_PARAMETERS}
 use Rattle.ci_tree.specs.Tree as tree
 use Rattle.ci_tree.specs.Tree.{Expr, What, Links, Exprs, Label, Stmt, Other, Clauses, Block}
 use Rattle.ci_tree.specs.Grammar as said
@@ -17,7 +18,7 @@ abbrev mutual
   what_tall (tree.literal text) = 1
   what_tall (tree.name name) = 1
   what_tall (tree.element name index) = tall index
-  what_tall (tree.call name args) = 16 + args_tall args
+  what_tall (tree.call name args) = MOST_PARAMETERS + args_tall args
   what_tall (tree.unary minus operand) = tall operand
   what_tall (tree.chain first rest) = max (tall first) (links_tall rest)
 
@@ -112,7 +113,7 @@ abbrev mutual
   pub stmt_tall : Stmt → ℕ
   stmt_tall (tree.declare at kind locals) = locals_tall locals
   stmt_tall (tree.assign at name index equals value) = max (maybe_tall index) (1 + tall value)
-  stmt_tall (tree.call_of at name args) = 16 + args_tall args
+  stmt_tall (tree.call_of at name args) = MOST_PARAMETERS + args_tall args
   stmt_tall (tree.choose at test body last) = max (tall test) (max (block_tall body) (other_tall last))
   stmt_tall (tree.while at test body) = max (tall test) (block_tall body)
   stmt_tall (tree.for at name_at name first last body) = max (tall first) (max (1 + tall last) (max 4 (1 + block_tall body)))

@@ -1,5 +1,5 @@
 -- The bound project of files without a fault is sound.
-use Rattle.std.specs.Prelude.{◌≡◌, refl, ℕ, zero, suc, ◌+◌, ◌<◌, ◌≤◌, Bool, true, false, not, ◌&&◌, ◌||◌, nat_le, nat_lt, ◌==◌, if◌then◌else◌, List, [], ◌∷◌, ◌++◌, length, map, take, drop, flat_map, replicate, Option, Some, None, is_some, option_map, unwrap_or, slice_get}
+use Rattle.std.specs.Prelude.{◌≡◌, refl, ℕ, zero, suc, ◌+◌, ◌<◌, ◌≤◌, Bool, true, false, not, ◌&&◌, ◌||◌, nat_le, nat_lt, ◌==◌, if◌then◌else◌, List, [], ◌∷◌, ◌++◌, length, map, take, drop, flat_map, replicate, Option, Some, None, is_some, option_map, unwrap_or, slice_get, All}
 use Rattle.std.specs.List.{list_all, list_any}
 use Rattle.std.specs.Str.{str_eq_ignore_ascii_case}
 use Rattle.std.proofs.Common.{sym, ap, ap₂, ◌∙◌, subst}
@@ -8,8 +8,10 @@ use Rattle.std.proofs.lemmas.List.{length-append, append_assoc, append-nil, leng
 use Rattle.std.proofs.lemmas.List.Sums.{sum_by-cons, sum_by-append}
 use Rattle.std.proofs.lemmas.Grind.{flat_map-append}
 use Rattle.std.proofs.lemmas.List.Folds.{list_all-append}
+use Rattle.std.proofs.lemmas.List.Elements.{All-nil, All-cons}
 use Rattle.std.proofs.Math.Seq.{drop-append_seam, take-append_seam}
 use native.Mathlib.Omega.{arith}
+use Rattle.ci_base.specs.declared.bounds.TheConstants.{MOST_FUNCTIONS, MOST_PARAMETERS, MOST_LOCALS, MOST_CELLS}
 use Rattle.ci_base.specs.declared.value.Kind.{Kind}
 use Rattle.ci_base.specs.declared.value.Kind.TheVariants.{Int, Str}
 use Rattle.ci_tree.specs.declared.tree.Const.{Const}
@@ -125,7 +127,7 @@ default_right s kind (Some first) h = first_sound s kind first h
 abbrev Rules : Scope → List Param → Param → Type 0
 Rules s before p =
     (is_free (local_name (record s { locals = map param_local before }) p.at p.name) ≡ true)
-    × (is_free (broken (length before == 16) s p.at (kind_of_fault.Limit limits.Parameters)) ≡ true)
+    × (is_free (broken (length before == MOST_PARAMETERS) s p.at (kind_of_fault.Limit limits.Parameters)) ≡ true)
     × (is_free (broken (not (has_default p) && list_any has_default before) s p.at kind_of_fault.ArgumentCount) ≡ true)
     × (is_free (maybe (first_value s (kind_of_type p.kind.name)) p.first) ≡ true)
 
@@ -133,7 +135,7 @@ param_rules : (s : Scope) (before : List Param) (p : Param) → is_free (param_f
 param_rules s before p h =
     let a = type_faults s p.kind in
     let b = local_name (record s { locals = map param_local before }) p.at p.name in
-    let c = broken (length before == 16) s p.at (kind_of_fault.Limit limits.Parameters) in
+    let c = broken (length before == MOST_PARAMETERS) s p.at (kind_of_fault.Limit limits.Parameters) in
     let d = broken (not (has_default p) && list_any has_default before) s p.at kind_of_fault.ArgumentCount in
     let e = maybe (first_value s (kind_of_type p.kind.name)) p.first in
     let abcd = free_left (a ++ b ++ c ++ d) e h in
@@ -154,18 +156,18 @@ params_right s before (p ∷ ps) h =
     both_true (is_right (taken (kind_of_type p.kind.name) p.first)) (list_all is_right (map (λ (x : Param). taken (kind_of_type x.kind.name) x.first) ps))
     (default_right s (kind_of_type p.kind.name) p.first (param_rules s before p member.0).3) (params_right s (before ++ p ∷ []) ps member.1)
 
-pub params_16 : (s : Scope) (ps : List Param) → is_free (each_behind (param_faults s) [] ps) ≡ true → length ps ≤ 16
-params_16 s ps h = from_zero (length ps) 16 (limited (param_faults s) 16 (λ before p free. unbroken (length before == 16) s p.at (kind_of_fault.Limit limits.Parameters) (param_rules s before p free).1) [] ps (zero_least 16) h)
+pub params_within : (s : Scope) (ps : List Param) → is_free (each_behind (param_faults s) [] ps) ≡ true → length ps ≤ MOST_PARAMETERS
+params_within s ps h = from_zero (length ps) MOST_PARAMETERS (limited (param_faults s) MOST_PARAMETERS (λ before p free. unbroken (length before == MOST_PARAMETERS) s p.at (kind_of_fault.Limit limits.Parameters) (param_rules s before p free).1) [] ps (zero_least MOST_PARAMETERS) h)
 
-local_below : (s : Scope) (at : ℕ) (name : List ℕ) → is_free (local_name s at name) ≡ true → (length s.locals == 64) ≡ false
+local_below : (s : Scope) (at : ℕ) (name : List ℕ) → is_free (local_name s at name) ≡ true → (length s.locals == MOST_LOCALS) ≡ false
 local_below s at name h =
-    unbroken (length s.locals == 64) s at (kind_of_fault.Limit limits.Locals)
-    (free_right (broken (list_any (λ (l : Local). str_eq_ignore_ascii_case l.name name) s.locals) s at kind_of_fault.DeclaredTwice) (broken (length s.locals == 64) s at (kind_of_fault.Limit limits.Locals)) h)
+    unbroken (length s.locals == MOST_LOCALS) s at (kind_of_fault.Limit limits.Locals)
+    (free_right (broken (list_any (λ (l : Local). str_eq_ignore_ascii_case l.name name) s.locals) s at kind_of_fault.DeclaredTwice) (broken (length s.locals == MOST_LOCALS) s at (kind_of_fault.Limit limits.Locals)) h)
 
-params_64 : (s : Scope) (ps : List Param) → is_free (each_behind (param_faults s) [] ps) ≡ true → length ps ≤ 64
-params_64 s ps h =
-    from_zero (length ps) 64 (limited (param_faults s) 64
-    (λ before p free. ap (λ n. n == 64) (sym (length-map before param_local)) ∙ local_below (record s { locals = map param_local before }) p.at p.name (param_rules s before p free).0) [] ps (zero_least 64) h)
+params_locals : (s : Scope) (ps : List Param) → is_free (each_behind (param_faults s) [] ps) ≡ true → length ps ≤ MOST_LOCALS
+params_locals s ps h =
+    from_zero (length ps) MOST_LOCALS (limited (param_faults s) MOST_LOCALS
+    (λ before p free. ap (λ n. n == MOST_LOCALS) (sym (length-map before param_local)) ∙ local_below (record s { locals = map param_local before }) p.at p.name (param_rules s before p free).0) [] ps (zero_least MOST_LOCALS) h)
 
 -- behind a parameter with a default all have one
 last_if : (b other : Bool) → (not b && other) ≡ false → other ≡ true → b ≡ true
@@ -215,78 +217,78 @@ params_last s before (p ∷ ps) h =
 
 -- Locals of a body
 
-more_locals : (s : Scope) (ls ms : List Local) (n : ℕ) → length (with_locals s ls).locals + n ≤ 64 → n ≡ length ms → length s.locals + length (ls ++ ms) ≤ 64
+more_locals : (s : Scope) (ls ms : List Local) (n : ℕ) → length (with_locals s ls).locals + n ≤ MOST_LOCALS → n ≡ length ms → length s.locals + length (ls ++ ms) ≤ MOST_LOCALS
 more_locals s ls ms n h e =
     let first : length (s.locals ++ ls) ≡ length s.locals + length ls = length-append s.locals ls in
     let second : length (ls ++ ms) ≡ length ls + length ms = length-append ls ms in
-    let whole : length (s.locals ++ ls) + n ≤ 64 = h in
+    let whole : length (s.locals ++ ls) + n ≤ MOST_LOCALS = h in
     sums (length s.locals) (length ls) (length ms) n (length (s.locals ++ ls)) (length (ls ++ ms)) first second e whole
   where
-    sums : (a b c n x y : ℕ) → x ≡ a + b → y ≡ b + c → n ≡ c → x + n ≤ 64 → a + y ≤ 64
+    sums : (a b c n x y : ℕ) → x ≡ a + b → y ≡ b + c → n ≡ c → x + n ≤ MOST_LOCALS → a + y ≤ MOST_LOCALS
     sums a b c n x y h1 h2 h3 h4 = omega arith
 
-within_first : (s : Scope) (ls : List Local) → length s.locals + length ls ≤ 64 → length (with_locals s ls).locals ≤ 64
-within_first s ls h = subst (λ k. k ≤ 64) (sym (length-append s.locals ls)) h
+within_first : (s : Scope) (ls : List Local) → length s.locals + length ls ≤ MOST_LOCALS → length (with_locals s ls).locals ≤ MOST_LOCALS
+within_first s ls h = subst (λ k. k ≤ MOST_LOCALS) (sym (length-append s.locals ls)) h
 
-locals_64 : (s : Scope) (kind : Kind) (ls : List from.Local) → length s.locals ≤ 64 → is_free (locals_faults s kind ls) ≡ true → length s.locals + length (map (declared_local kind) ls) ≤ 64
-locals_64 s kind [] h free = no_more (length s.locals) 64 h
-locals_64 s kind (l ∷ ls) h free =
+locals_within : (s : Scope) (kind : Kind) (ls : List from.Local) → length s.locals ≤ MOST_LOCALS → is_free (locals_faults s kind ls) ≡ true → length s.locals + length (map (declared_local kind) ls) ≤ MOST_LOCALS
+locals_within s kind [] h free = no_more (length s.locals) MOST_LOCALS h
+locals_within s kind (l ∷ ls) h free =
     let next = with_locals s (declared_local kind l ∷ []) in
     let front = free_left (local_name s l.at l.name ++ maybe (part_faults s kind) l.value) (locals_faults next kind ls) free in
     let longer : length next.locals ≡ length s.locals + 1 = length-append s.locals (declared_local kind l ∷ []) in
-    let room = below (length s.locals) 64 h (local_below s l.at l.name (free_left (local_name s l.at l.name) (maybe (part_faults s kind) l.value) front)) in
-    one_more (length s.locals) (length (map (declared_local kind) ls)) (length next.locals) 64 longer
-    (locals_64 next kind ls (subst (λ k. k ≤ 64) (sym longer) room) (free_right (local_name s l.at l.name ++ maybe (part_faults s kind) l.value) (locals_faults next kind ls) free))
+    let room = below (length s.locals) MOST_LOCALS h (local_below s l.at l.name (free_left (local_name s l.at l.name) (maybe (part_faults s kind) l.value) front)) in
+    one_more (length s.locals) (length (map (declared_local kind) ls)) (length next.locals) MOST_LOCALS longer
+    (locals_within next kind ls (subst (λ k. k ≤ MOST_LOCALS) (sym longer) room) (free_right (local_name s l.at l.name ++ maybe (part_faults s kind) l.value) (locals_faults next kind ls) free))
 
 -- two parts of a body, the second where the locals of the first hold
-two_64 : (s : Scope) (ls ms : List Local) → length s.locals + length ls ≤ 64 → (length (with_locals s ls).locals ≤ 64 → length (with_locals s ls).locals + length ms ≤ 64) → length s.locals + length (ls ++ ms) ≤ 64
-two_64 s ls ms h next = more_locals s ls ms (length ms) (next (within_first s ls h)) refl
+two_within : (s : Scope) (ls ms : List Local) → length s.locals + length ls ≤ MOST_LOCALS → (length (with_locals s ls).locals ≤ MOST_LOCALS → length (with_locals s ls).locals + length ms ≤ MOST_LOCALS) → length s.locals + length (ls ++ ms) ≤ MOST_LOCALS
+two_within s ls ms h next = more_locals s ls ms (length ms) (next (within_first s ls h)) refl
 
 mutual
-  stmt_64 : (s : Scope) (stmt : from.Stmt) → length s.locals ≤ 64 → is_free (stmt_faults s stmt) ≡ true → length s.locals + length (locals_in stmt) ≤ 64
-  stmt_64 s (from.declare at kind locals) h free = locals_64 s (kind_of_type kind.name) locals h (free_right (type_faults s kind) (locals_faults s (kind_of_type kind.name) locals) free)
-  stmt_64 s (from.assign at name index equals value) h free = no_more (length s.locals) 64 h
-  stmt_64 s (from.call_of at name args) h free = no_more (length s.locals) 64 h
-  stmt_64 s (from.choose at test body last) h free =
+  stmt_within : (s : Scope) (stmt : from.Stmt) → length s.locals ≤ MOST_LOCALS → is_free (stmt_faults s stmt) ≡ true → length s.locals + length (locals_in stmt) ≤ MOST_LOCALS
+  stmt_within s (from.declare at kind locals) h free = locals_within s (kind_of_type kind.name) locals h (free_right (type_faults s kind) (locals_faults s (kind_of_type kind.name) locals) free)
+  stmt_within s (from.assign at name index equals value) h free = no_more (length s.locals) MOST_LOCALS h
+  stmt_within s (from.call_of at name args) h free = no_more (length s.locals) MOST_LOCALS h
+  stmt_within s (from.choose at test body last) h free =
       let behind = with_locals s (locals_in_block body) in
       let front = free_left (part_faults s Int test ++ block_faults s body) (other_faults behind last) free in
-      two_64 s (locals_in_block body) (locals_in_other last) (block_64 s body h (free_right (part_faults s Int test) (block_faults s body) front))
-      (λ within. other_64 behind last within (free_right (part_faults s Int test ++ block_faults s body) (other_faults behind last) free))
-  stmt_64 s (from.while at test body) h free = block_64 s body h (free_right (part_faults s Int test) (block_faults s body) free)
-  stmt_64 s (from.for at name_at name first last body) h free =
-      block_64 s body h (free_right (part_faults s Int (target name_at name None) ++ part_faults s Int first ++ part_faults s Int last) (block_faults s body) free)
-  stmt_64 s (from.select at subject clauses last) h free =
+      two_within s (locals_in_block body) (locals_in_other last) (block_within s body h (free_right (part_faults s Int test) (block_faults s body) front))
+      (λ within. other_within behind last within (free_right (part_faults s Int test ++ block_faults s body) (other_faults behind last) free))
+  stmt_within s (from.while at test body) h free = block_within s body h (free_right (part_faults s Int test) (block_faults s body) free)
+  stmt_within s (from.for at name_at name first last body) h free =
+      block_within s body h (free_right (part_faults s Int (target name_at name None) ++ part_faults s Int first ++ part_faults s Int last) (block_faults s body) free)
+  stmt_within s (from.select at subject clauses last) h free =
       let behind = with_locals s (locals_in_clauses clauses) in
       let front = free_left (expr_faults s subject ++ clauses_faults s (kind_of s subject) clauses) (other_faults behind last) free in
-      two_64 s (locals_in_clauses clauses) (locals_in_other last) (clauses_64 s (kind_of s subject) clauses h (free_right (expr_faults s subject) (clauses_faults s (kind_of s subject) clauses) front))
-      (λ within. other_64 behind last within (free_right (expr_faults s subject ++ clauses_faults s (kind_of s subject) clauses) (other_faults behind last) free))
-  stmt_64 s (from.return at value) h free = no_more (length s.locals) 64 h
+      two_within s (locals_in_clauses clauses) (locals_in_other last) (clauses_within s (kind_of s subject) clauses h (free_right (expr_faults s subject) (clauses_faults s (kind_of s subject) clauses) front))
+      (λ within. other_within behind last within (free_right (expr_faults s subject ++ clauses_faults s (kind_of s subject) clauses) (other_faults behind last) free))
+  stmt_within s (from.return at value) h free = no_more (length s.locals) MOST_LOCALS h
 
-  other_64 : (s : Scope) (last : from.Other) → length s.locals ≤ 64 → is_free (other_faults s last) ≡ true → length s.locals + length (locals_in_other last) ≤ 64
-  other_64 s from.no_other h free = no_more (length s.locals) 64 h
-  other_64 s (from.other body) h free = block_64 s body h free
+  other_within : (s : Scope) (last : from.Other) → length s.locals ≤ MOST_LOCALS → is_free (other_faults s last) ≡ true → length s.locals + length (locals_in_other last) ≤ MOST_LOCALS
+  other_within s from.no_other h free = no_more (length s.locals) MOST_LOCALS h
+  other_within s (from.other body) h free = block_within s body h free
 
-  clauses_64 : (s : Scope) (a : Option Kind) (clauses : from.Clauses) → length s.locals ≤ 64 → is_free (clauses_faults s a clauses) ≡ true → length s.locals + length (locals_in_clauses clauses) ≤ 64
-  clauses_64 s a from.no_clause h free = no_more (length s.locals) 64 h
-  clauses_64 s a (from.clause at labels body more) h free =
+  clauses_within : (s : Scope) (a : Option Kind) (clauses : from.Clauses) → length s.locals ≤ MOST_LOCALS → is_free (clauses_faults s a clauses) ≡ true → length s.locals + length (locals_in_clauses clauses) ≤ MOST_LOCALS
+  clauses_within s a from.no_clause h free = no_more (length s.locals) MOST_LOCALS h
+  clauses_within s a (from.clause at labels body more) h free =
       let behind = with_locals s (locals_in_block body) in
       let front = free_left (labels_faults s a labels ++ block_faults s body) (clauses_faults behind a more) free in
-      two_64 s (locals_in_block body) (locals_in_clauses more) (block_64 s body h (free_right (labels_faults s a labels) (block_faults s body) front))
-      (λ within. clauses_64 behind a more within (free_right (labels_faults s a labels ++ block_faults s body) (clauses_faults behind a more) free))
+      two_within s (locals_in_block body) (locals_in_clauses more) (block_within s body h (free_right (labels_faults s a labels) (block_faults s body) front))
+      (λ within. clauses_within behind a more within (free_right (labels_faults s a labels ++ block_faults s body) (clauses_faults behind a more) free))
 
-  block_64 : (s : Scope) (block : from.Block) → length s.locals ≤ 64 → is_free (block_faults s block) ≡ true → length s.locals + length (locals_in_block block) ≤ 64
-  block_64 s from.done h free = no_more (length s.locals) 64 h
-  block_64 s (from.then first more) h free =
+  block_within : (s : Scope) (block : from.Block) → length s.locals ≤ MOST_LOCALS → is_free (block_faults s block) ≡ true → length s.locals + length (locals_in_block block) ≤ MOST_LOCALS
+  block_within s from.done h free = no_more (length s.locals) MOST_LOCALS h
+  block_within s (from.then first more) h free =
       let behind = with_locals s (locals_in first) in
-      two_64 s (locals_in first) (locals_in_block more) (stmt_64 s first h (free_left (stmt_faults s first) (block_faults behind more) free))
-      (λ within. block_64 behind more within (free_right (stmt_faults s first) (block_faults behind more) free))
+      two_within s (locals_in first) (locals_in_block more) (stmt_within s first h (free_left (stmt_faults s first) (block_faults behind more) free))
+      (λ within. block_within behind more within (free_right (stmt_faults s first) (block_faults behind more) free))
 
 -- Functions. The rules of a function that are used here.
 pub function_params : (d : Declared) (before : List Function) (f : Function) → is_free (function_faults d before f) ≡ true → is_free (each_behind (param_faults (scope_of d f)) [] f.params) ≡ true
 function_params d before f h =
     let s = scope_of d f in
     let a = broken (list_any (same_function f) before || is_some (given_named f.name)) s f.at kind_of_fault.DeclaredTwice in
-    let b = broken (length before == 1000) s f.at (kind_of_fault.Limit limits.Functions) in
+    let b = broken (length before == MOST_FUNCTIONS) s f.at (kind_of_fault.Limit limits.Functions) in
     let c = maybe (type_faults s) f.gives in
     let e = each_behind (param_faults s) [] f.params in
     free_right (a ++ b ++ c) e (free_left (a ++ b ++ c ++ e) (block_faults s f.body) h)
@@ -295,19 +297,19 @@ pub function_body : (d : Declared) (before : List Function) (f : Function) → i
 function_body d before f h =
     let s = scope_of d f in
     let a = broken (list_any (same_function f) before || is_some (given_named f.name)) s f.at kind_of_fault.DeclaredTwice in
-    let b = broken (length before == 1000) s f.at (kind_of_fault.Limit limits.Functions) in
+    let b = broken (length before == MOST_FUNCTIONS) s f.at (kind_of_fault.Limit limits.Functions) in
     let c = maybe (type_faults s) f.gives in
     let e = each_behind (param_faults s) [] f.params in
     free_right (a ++ b ++ c ++ e) (block_faults s f.body) h
 
-function_below : (d : Declared) (before : List Function) (f : Function) → is_free (function_faults d before f) ≡ true → (length before == 1000) ≡ false
+function_below : (d : Declared) (before : List Function) (f : Function) → is_free (function_faults d before f) ≡ true → (length before == MOST_FUNCTIONS) ≡ false
 function_below d before f h =
     let s = scope_of d f in
     let a = broken (list_any (same_function f) before || is_some (given_named f.name)) s f.at kind_of_fault.DeclaredTwice in
-    let b = broken (length before == 1000) s f.at (kind_of_fault.Limit limits.Functions) in
+    let b = broken (length before == MOST_FUNCTIONS) s f.at (kind_of_fault.Limit limits.Functions) in
     let c = maybe (type_faults s) f.gives in
     let e = each_behind (param_faults s) [] f.params in
-    unbroken (length before == 1000) s f.at (kind_of_fault.Limit limits.Functions) (free_right a b (free_left (a ++ b) c (free_left (a ++ b ++ c) e (free_left (a ++ b ++ c ++ e) (block_faults s f.body) h))))
+    unbroken (length before == MOST_FUNCTIONS) s f.at (kind_of_fault.Limit limits.Functions) (free_right a b (free_left (a ++ b) c (free_left (a ++ b ++ c) e (free_left (a ++ b ++ c ++ e) (block_faults s f.body) h))))
 
 param_kinds_same : (ps : List Param) → map (λ (q : to.Param). q.kind) (map bound_param ps) ≡ kinds (map param_local ps)
 param_kinds_same [] = refl
@@ -326,28 +328,28 @@ function_stood d f defaults = record {
   defaults = defaults;
 }
 
--- a function has at most 64 locals
-pub locals_few : (d : Declared) (before : List Function) (f : Function) → is_free (function_faults d before f) ≡ true → length (bound_function d f).params + length (bound_function d f).others ≤ 64
+-- a function has no more locals than there may be
+pub locals_few : (d : Declared) (before : List Function) (f : Function) → is_free (function_faults d before f) ≡ true → length (bound_function d f).params + length (bound_function d f).others ≤ MOST_LOCALS
 locals_few d before f h =
     let s = scope_of d f in
     let params = function_params d before f h in
-    subst (λ k. k ≤ 64) (ap₂ (λ a b. a + b) (length-map f.params param_local ∙ sym (length-map f.params bound_param)) (sym (length-map (locals_in_block f.body) (λ (l : Local). l.kind))))
-    (block_64 s f.body (subst (λ k. k ≤ 64) (sym (length-map f.params param_local)) (params_64 s f.params params)) (function_body d before f h))
+    subst (λ k. k ≤ MOST_LOCALS) (ap₂ (λ a b. a + b) (length-map f.params param_local ∙ sym (length-map f.params bound_param)) (sym (length-map (locals_in_block f.body) (λ (l : Local). l.kind))))
+    (block_within s f.body (subst (λ k. k ≤ MOST_LOCALS) (sym (length-map f.params param_local)) (params_locals s f.params params)) (function_body d before f h))
 
 function_sound : (d : Declared) (before : List Function) (f : Function) → Defaults d → is_free (function_faults d before f) ≡ true → is_function (bound_declared d) (bound_function d f) ≡ true
 function_sound d before f defaults h =
     let s = scope_of d f in
     let g = bound_function d f in
     let params = function_params d before f h in
-    let few : length g.params ≤ 16 = subst (λ k. k ≤ 16) (sym (length-map f.params bound_param)) (params_16 s f.params params) in
-    let locals : length g.params + length g.others ≤ 64 = locals_few d before f h in
-    let a = nat_le (length g.params) 16 in
-    let b = nat_le (length g.params + length g.others) 64 in
+    let few : length g.params ≤ MOST_PARAMETERS = subst (λ k. k ≤ MOST_PARAMETERS) (sym (length-map f.params bound_param)) (params_within s f.params params) in
+    let locals : length g.params + length g.others ≤ MOST_LOCALS = locals_few d before f h in
+    let a = nat_le (length g.params) MOST_PARAMETERS in
+    let b = nat_le (length g.params + length g.others) MOST_LOCALS in
     let c = list_all (λ (q : to.Param). is_default q.kind q.first) g.params in
     let e = are_last g.params in
     both_true (a && b && c && e) (is_block (context_of (bound_declared d) g) g.body)
     (both_true (a && b && c) e
-    (both_true (a && b) c (both_true a b (le-leb (length g.params) 16 few) (le-leb (length g.params + length g.others) 64 locals)) (params_default s [] f.params params))
+    (both_true (a && b) c (both_true a b (le-leb (length g.params) MOST_PARAMETERS few) (le-leb (length g.params + length g.others) MOST_LOCALS locals)) (params_default s [] f.params params))
     (params_last s [] f.params params))
     (block_sound d (context_of (bound_declared d) g) s f.body [] (function_stood d f defaults) (function_body d before f h))
 
@@ -394,29 +396,40 @@ size_least s (Some l) h = above (array_size l.value) (unbroken (array_size l.val
     above : (n : ℕ) → (n == 0) ≡ false → 1 ≤ n
     above n e = positive n (eqb-false n 0 e)
 
-cells_after : (before : List Variable) (v : Variable) → cells_of (before ++ v ∷ []) ≡ cells_of before + size_of v
+pub cells_after : (before : List Variable) (v : Variable) → cells_of (before ++ v ∷ []) ≡ cells_of before + size_of v
 cells_after before v = sum_by-append size_of before (v ∷ []) ∙ ap (λ n. cells_of before + n) (sum_by-cons size_of v [] ∙ plus_none (size_of v))
   where
     plus_none : (n : ℕ) → n + 0 ≡ n
     plus_none n = omega arith
 
-room_left : (n size : ℕ) → (nat_le n 100000 && nat_lt 100000 (n + size)) ≡ false → n ≤ 100000 → n + size ≤ 100000
+room_left : (n size : ℕ) → (nat_le n MOST_CELLS && nat_lt MOST_CELLS (n + size)) ≡ false → n ≤ MOST_CELLS → n + size ≤ MOST_CELLS
 room_left n size e h =
-    let past : nat_lt 100000 (n + size) ≡ false = sym (ap (λ b. b && nat_lt 100000 (n + size)) (le-leb n 100000 h)) ∙ e in
-    let less : n + size < 100001 = leb-false 100001 (n + size) past in
+    let past : nat_lt MOST_CELLS (n + size) ≡ false = sym (ap (λ b. b && nat_lt MOST_CELLS (n + size)) (le-leb n MOST_CELLS h)) ∙ e in
+    let less : n + size < MOST_CELLS + 1 = leb-false (MOST_CELLS + 1) (n + size) past in
     omega arith
 
-cells_100000 : (d : Declared) (before vs : List Variable) → cells_of before ≤ 100000 → is_free (each_behind (variable_faults d) before vs) ≡ true → cells_of before + cells_of vs ≤ 100000
-cells_100000 d before [] within h = no_more (cells_of before) 100000 within
-cells_100000 d before (v ∷ vs) within h =
+-- the cells of all variables are no more than there may be
+cells_within : (d : Declared) (before vs : List Variable) → cells_of before ≤ MOST_CELLS → is_free (each_behind (variable_faults d) before vs) ≡ true → cells_of before + cells_of vs ≤ MOST_CELLS
+cells_within d before [] within h = no_more (cells_of before) MOST_CELLS within
+cells_within d before (v ∷ vs) within h =
     let member = each_member (variable_faults d) before v vs h in
     let after = cells_after before v in
     let more : cells_of (v ∷ vs) ≡ size_of v + cells_of vs = sum_by-cons size_of v vs in
     sums (cells_of before) (size_of v) (cells_of vs) (cells_of (before ++ v ∷ [])) (cells_of (v ∷ vs)) after more
-    (cells_100000 d (before ++ v ∷ []) vs (subst (λ k. k ≤ 100000) (sym after) (room_left (cells_of before) (size_of v) (variable_rules d before v member.0).0 within)) member.1)
+    (cells_within d (before ++ v ∷ []) vs (subst (λ k. k ≤ MOST_CELLS) (sym after) (room_left (cells_of before) (size_of v) (variable_rules d before v member.0).0 within)) member.1)
   where
-    sums : (a b c x y : ℕ) → x ≡ a + b → y ≡ b + c → x + c ≤ 100000 → a + y ≤ 100000
+    sums : (a b c x y : ℕ) → x ≡ a + b → y ≡ b + c → x + c ≤ MOST_CELLS → a + y ≤ MOST_CELLS
     sums a b c x y h1 h2 h3 = omega arith
+
+pub cells_few : (d : Declared) → is_free (each_behind (variable_faults d) [] d.variables) ≡ true → cells_of d.variables ≤ MOST_CELLS
+cells_few d h = from_zero (cells_of d.variables) MOST_CELLS (cells_within d [] d.variables (zero_least MOST_CELLS) h)
+
+-- each variable has a cell
+pub all_sized : (d : Declared) (before vs : List Variable) → is_free (each_behind (variable_faults d) before vs) ≡ true → All (λ (v : Variable). 1 ≤ size_of v) vs
+all_sized d before [] h = All-nil (λ (v : Variable). 1 ≤ size_of v)
+all_sized d before (v ∷ vs) h =
+    let member = each_member (variable_faults d) before v vs h in
+    All-cons (λ (w : Variable). 1 ≤ size_of w) v vs (size_least (file_scope d v.file) v.length (variable_rules d before v member.0).1) (all_sized d (before ++ v ∷ []) vs member.1)
 
 all_replicate : {A : Type 0} (test : A → Bool) (n : ℕ) (x : A) → test x ≡ true → list_all test (replicate n x) ≡ true
 all_replicate test zero x h = refl
@@ -500,18 +513,18 @@ declared_sound d h =
     let p = bound_declared d in
     let fs = free_left (each_behind (function_faults d) [] d.functions) (each_behind (variable_faults d) [] d.variables) h in
     let vs = free_right (each_behind (function_faults d) [] d.functions) (each_behind (variable_faults d) [] d.variables) h in
-    let few : length p.functions ≤ 1000 =
-    subst (λ k. k ≤ 1000) (sym (length-map d.functions (bound_function d))) (from_zero (length d.functions) 1000 (limited (function_faults d) 1000 (function_below d) [] d.functions (zero_least 1000) fs)) in
-    let cells : length p.cells ≤ 100000 = subst (λ k. k ≤ 100000) (sym (length_cells d.variables)) (from_zero (cells_of d.variables) 100000 (cells_100000 d [] d.variables (zero_least 100000) vs)) in
-    let a = nat_le (length p.functions) 1000 in
-    let b = nat_le (length p.cells) 100000 in
+    let few : length p.functions ≤ MOST_FUNCTIONS =
+    subst (λ k. k ≤ MOST_FUNCTIONS) (sym (length-map d.functions (bound_function d))) (from_zero (length d.functions) MOST_FUNCTIONS (limited (function_faults d) MOST_FUNCTIONS (function_below d) [] d.functions (zero_least MOST_FUNCTIONS) fs)) in
+    let cells : length p.cells ≤ MOST_CELLS = subst (λ k. k ≤ MOST_CELLS) (sym (length_cells d.variables)) (cells_few d vs) in
+    let a = nat_le (length p.functions) MOST_FUNCTIONS in
+    let b = nat_le (length p.cells) MOST_CELLS in
     let c = list_all (is_function p) p.functions in
     let e = list_all is_cell p.cells in
     let g = list_all (is_array p) p.arrays in
     both_true (a && b && c && e && g) (list_all (is_global p) p.globals)
     (both_true (a && b && c && e) g
     (both_true (a && b && c) e
-    (both_true (a && b) c (both_true a b (le-leb (length p.functions) 1000 few) (le-leb (length p.cells) 100000 cells)) (functions_sound d (defaults_right d fs) [] d.functions fs))
+    (both_true (a && b) c (both_true a b (le-leb (length p.functions) MOST_FUNCTIONS few) (le-leb (length p.cells) MOST_CELLS cells)) (functions_sound d (defaults_right d fs) [] d.functions fs))
     (cells_sound d [] d.variables vs))
     (each_sound (is_array p) bound_array d
     (λ before more v same least. all_if (is_array p) (is_array_said v.length) (record { first = cells_of before; kind = kind_of_variable v; length = size_of v }) (array_sound d before more v same least))

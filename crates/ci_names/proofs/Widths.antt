@@ -7,6 +7,7 @@ use Rattle.std.proofs.Common.{sym, ap, ap₂, ◌∙◌, subst, inl, inr}
 use Rattle.std.proofs.lemmas.Bool.{true≢false, leb-true}
 use Rattle.std.proofs.lemmas.List.{length-map}
 use native.Mathlib.Omega.{arith}
+use Rattle.ci_base.specs.declared.bounds.TheConstants.{MOST_PARAMETERS}
 use Rattle.ci_base.specs.declared.value.Kind.{Kind}
 use Rattle.ci_base.specs.declared.value.Kind.TheVariants.{Int, Str}
 use Rattle.ci_base.specs.declared.value.Value.{Value}
@@ -24,9 +25,11 @@ use Rattle.ci_names.specs.Scopes.{Scope, Local, with_locals, declared_local, loc
 use Rattle.ci_names.specs.Kinds.{takes_of, is_count, is_name_alone, kind_of, are_taken}
 use Rattle.ci_names.specs.Expressions.{broken, differ, start_of, wants_kind, indexed_name, called_name, argument_count, call_faults, call_value, argument, operation, int_operand, expr_faults, what_faults, links_faults, args_faults}
 use Rattle.ci_names.specs.Statements.{type_faults, local_name, maybe, part_faults, locals_faults, target, assigned, compared, label_faults, labels_faults, return_faults, stmt_faults, other_faults, clauses_faults, block_faults}
-use Rattle.ci_names.specs.Binding.{callee_of, constant, left_out, called_with, bound_expr, bound_what, bound_links, bound_args, bound_call, set_before, locals_before, bound_assign, bound_label, returned, bound_before, bound_other, bound_last, bound_clauses, bound_block}
+use Rattle.ci_tree.specs.LeftOut.{constant, constants}
+use Rattle.ci_names.specs.Binding.{callee_of, heads_in, called_with, bound_expr, bound_what, bound_links, bound_args, bound_call, set_before, locals_before, bound_assign, bound_label, returned, bound_before, bound_other, bound_last, bound_clauses, bound_block}
 use Rattle.ci_names.proofs.Free.{is_free, args_free}
-use Rattle.ci_names.proofs.Leads.{left_true, right_true, Fits, IsThere, Plain, read_takes, alone_kept}
+use Rattle.ci_names.proofs.AllArguments.{default_of, all_args}
+use Rattle.ci_names.proofs.Leads.{left_true, right_true, Fits, IsThere, Plain, plain_all, read_takes, alone_kept}
 use Rattle.ci_names.proofs.Meant.{kinds}
 use Rattle.ci_names.proofs.Bodies.{free_left, free_right, unbroken, not_false, Stood, fitting, first_part, second_part}
 use Rattle.ci_names.proofs.Maxima.{max_least, max_both}
@@ -34,53 +37,53 @@ use Rattle.ci_names.proofs.Tall.{tall, what_tall, links_tall, args_tall, maybe_t
 
 -- no function that is seen takes more than 16 arguments
 abbrev pub Few : Scope → Type 0
-Few s = (name : List ℕ) (called : Called) → callee s name ≡ Some called → length called.heading.takes ≤ 16
+Few s = (name : List ℕ) (called : Called) → callee s name ≡ Some called → length called.heading.takes ≤ MOST_PARAMETERS
 
 constant_wide : (v : Value) → width (constant v) ≡ 1
 constant_wide (values.Int n) = refl
 constant_wide (values.Str t) = refl
 
-left_wide : (k : ℕ) (takes : List Taken) → k + length takes ≤ 16 → args_width k (left_out takes) ≤ 17
+left_wide : (k : ℕ) (takes : List Taken) → k + length takes ≤ MOST_PARAMETERS → args_width k (constants (map default_of takes)) ≤ MOST_PARAMETERS + 1
 left_wide k [] h = omega arith
 left_wide k ((by_value kind) ∷ takes) h = left_wide k takes (omega arith)
 left_wide k ((with_default kind v) ∷ takes) h =
-    let one : k + width (constant v) ≤ 17 = subst (λ n. k + n ≤ 17) (sym (constant_wide v)) (omega arith) in
+    let one : k + width (constant v) ≤ MOST_PARAMETERS + 1 = subst (λ n. k + n ≤ MOST_PARAMETERS + 1) (sym (constant_wide v)) (omega arith) in
     let rest = left_wide (k + 1) takes (omega arith) in
     omega arith
 left_wide k ((to_be_set kind) ∷ takes) h = left_wide k takes (omega arith)
 
 -- what is known of the arguments of a call
 abbrev ArgsWide : Scope → from.Exprs → Type 0
-ArgsWide s args = (k : ℕ) (takes : List Taken) → k + length takes ≤ 16 → is_count takes args ≡ true → is_free (args_faults s takes args) ≡ true → args_width k (bound_args s takes args) ≤ 16 + args_tall args
+ArgsWide s args = (k : ℕ) (takes : List Taken) → k + length takes ≤ MOST_PARAMETERS → is_count takes args ≡ true → is_free (args_faults s takes args) ≡ true → args_width k (all_args s takes args) ≤ MOST_PARAMETERS + args_tall args
 
 abbrev ReadWide : Scope → from.Exprs → Type 0
 ReadWide s args =
     is_count read_takes args ≡ true → are_taken s read_takes args ≡ true → is_free (args_faults s read_takes args) ≡ true →
-    call_width (called_with (to.shared requests.QueRead) (bound_args s read_takes args)) ≤ 16 + args_tall args
+    call_width (called_with (heads_in s.declared) (to.shared requests.QueRead) (bound_args s args)) ≤ MOST_PARAMETERS + args_tall args
 
 abbrev CallWide : Scope → from.Exprs → Called → Type 0
 CallWide s args called =
     is_count called.heading.takes args ≡ true → are_taken s called.heading.takes args ≡ true → is_free (args_faults s called.heading.takes args) ≡ true →
-    call_width (called_with called.callee (bound_args s called.heading.takes args)) ≤ 16 + args_tall args
+    call_width (called_with (heads_in s.declared) called.callee (bound_args s args)) ≤ MOST_PARAMETERS + args_tall args
 
-plain_wide : (c : Context) (s : Scope) (args : from.Exprs) (called : Called) → Plain c called → length called.heading.takes ≤ 16 → ArgsWide s args → CallWide s args called
+plain_wide : (c : Context) (s : Scope) (args : from.Exprs) (called : Called) → Plain c (heads_in s.declared) called → length called.heading.takes ≤ MOST_PARAMETERS → ArgsWide s args → CallWide s args called
 plain_wide c s args called plain few wide count taken free =
     let a = wide 0 called.heading.takes (omega arith) count free in
-    subst (λ what. call_width what ≤ 16 + args_tall args) (sym (plain.same (bound_args s called.heading.takes args))) (omega arith)
+    subst (λ what. call_width what ≤ MOST_PARAMETERS + args_tall args) (sym (plain_all c s called plain args)) (omega arith)
 
-there_wide : (c : Context) (s : Scope) (args : from.Exprs) (called : Called) → IsThere c called → length called.heading.takes ≤ 16 → ArgsWide s args → ReadWide s args → CallWide s args called
+there_wide : (c : Context) (s : Scope) (args : from.Exprs) (called : Called) → IsThere c (heads_in s.declared) called → length called.heading.takes ≤ MOST_PARAMETERS → ArgsWide s args → ReadWide s args → CallWide s args called
 there_wide c s args called (inl plain) few wide read = plain_wide c s args called plain few wide
 there_wide c s args called (inr same) few wide read = subst (CallWide s args) (sym same) read
 
-called_wide : (c : Context) (s : Scope) (at : ℕ) (args : from.Exprs) (m : Meaning) (o : Option Called) → ((called : Called) → o ≡ Some called → IsThere c called) → ((called : Called) → o ≡ Some called → length called.heading.takes ≤ 16) →
+called_wide : (c : Context) (s : Scope) (at : ℕ) (args : from.Exprs) (m : Meaning) (o : Option Called) → ((called : Called) → o ≡ Some called → IsThere c (heads_in s.declared) called) → ((called : Called) → o ≡ Some called → length called.heading.takes ≤ MOST_PARAMETERS) →
     ArgsWide s args → ReadWide s args → is_free (called_name s at o m ++ argument_count s at o args) ≡ true → is_free (args_faults s (takes_of o) args) ≡ true →
-    call_width (called_with (callee_of o) (bound_args s (takes_of o) args)) ≤ 16 + args_tall args
+    call_width (called_with (heads_in s.declared) (callee_of o) (bound_args s args)) ≤ MOST_PARAMETERS + args_tall args
 called_wide c s at args m None there few wide read h free = absurd (true≢false (sym h))
 called_wide c s at args m (Some called) there few wide read h free =
     let count = not_false (is_count called.heading.takes args) (unbroken (not (is_count called.heading.takes args)) s at kind_of_fault.ArgumentCount h) in
     there_wide c s args called (there called refl) (few called refl) wide read count (args_free s called.heading.takes args count ∙ free) free
 
-read_sum : (wq wm q a b m : ℕ) → wq ≤ q → wm ≤ m → max wq (max (1 + wm) 2) ≤ 16 + max q (max a (max b (max m 1)))
+read_sum : (wq wm q a b m : ℕ) → wq ≤ q → wm ≤ m → max wq (max (1 + wm) 2) ≤ MOST_PARAMETERS + max q (max a (max b (max m 1)))
 read_sum wq wm q a b m h i = omega arith
 
 mutual
@@ -112,8 +115,8 @@ mutual
       (links_wide c s f few next rest (free_right (operation s at op left (kind_of s right) ++ expr_faults s right) (links_faults s next rest) h))
   links_wide c s f few left (from.hashes at count rest) h = links_wide c s f few (formed left) rest (free_right (int_operand s at left) (links_faults s (formed left) rest) h)
 
-  args_wide : (c : Context) (s : Scope) → Fits c s → Few s → (args : from.Exprs) (k : ℕ) (takes : List Taken) → k + length takes ≤ 16 → is_count takes args ≡ true → is_free (args_faults s takes args) ≡ true →
-      args_width k (bound_args s takes args) ≤ 16 + args_tall args
+  args_wide : (c : Context) (s : Scope) → Fits c s → Few s → (args : from.Exprs) (k : ℕ) (takes : List Taken) → k + length takes ≤ MOST_PARAMETERS → is_count takes args ≡ true → is_free (args_faults s takes args) ≡ true →
+      args_width k (all_args s takes args) ≤ MOST_PARAMETERS + args_tall args
   args_wide c s f few from.no_expr k takes room n h = left_wide k takes room
   args_wide c s f few (from.more first rest) k [] room n h = absurd (true≢false (sym n))
   args_wide c s f few (from.more first rest) k (taken ∷ takes) room n h =
@@ -122,7 +125,7 @@ mutual
       omega arith
 
   read_wide : (c : Context) (s : Scope) → Fits c s → Few s → (args : from.Exprs) → is_count read_takes args ≡ true → are_taken s read_takes args ≡ true → is_free (args_faults s read_takes args) ≡ true →
-      call_width (called_with (to.shared requests.QueRead) (bound_args s read_takes args)) ≤ 16 + args_tall args
+      call_width (called_with (heads_in s.declared) (to.shared requests.QueRead) (bound_args s args)) ≤ MOST_PARAMETERS + args_tall args
   read_wide c s f few from.no_expr n h free = absurd (true≢false (sym n))
   read_wide c s f few (from.more queue from.no_expr) n h free = absurd (true≢false (sym n))
   read_wide c s f few (from.more queue (from.more a from.no_expr)) n h free = absurd (true≢false (sym n))
@@ -141,34 +144,34 @@ mutual
       let after_a = free_right (argument s (to_be_set Int) a ++ expr_faults s a) behind_a after_q in
       let after_b = free_right (argument s (to_be_set Str) b ++ expr_faults s b) behind_b after_a in
       let m = expr_wide c s f few mode (free_right (argument s (by_value Int) mode) (expr_faults s mode) (free_left (argument s (by_value Int) mode ++ expr_faults s mode) [] after_b)) in
-      subst (λ what. call_width what ≤ 16 + max (tall queue) (max (tall a) (max (tall b) (max (tall mode) 1))))
-      (sym (ap₂ (λ x y. called_with (to.shared requests.QueRead) (to.more (bound_expr s queue) (to.more x (to.more y (to.more (bound_expr s mode) to.no_expr))))) sort.1 text.1))
+      subst (λ what. call_width what ≤ MOST_PARAMETERS + max (tall queue) (max (tall a) (max (tall b) (max (tall mode) 1))))
+      (sym (ap₂ (λ x y. called_with (heads_in s.declared) (to.shared requests.QueRead) (to.more (bound_expr s queue) (to.more x (to.more y (to.more (bound_expr s mode) to.no_expr))))) sort.1 text.1))
       (read_sum (width (bound_expr s queue)) (width (bound_expr s mode)) (tall queue) (tall a) (tall b) (tall mode) q m)
 
 -- Statements
 
 -- no function of the files has more than 16 parameters
 abbrev pub FewParams : Declared → Type 0
-FewParams d = (n : ℕ) (f : Function) → slice_get d.functions n ≡ Some f → length f.params ≤ 16
+FewParams d = (n : ℕ) (f : Function) → slice_get d.functions n ≡ Some f → length f.params ≤ MOST_PARAMETERS
 
 abbrev AreFew : Option Called → Type 0
-AreFew o = (called : Called) → o ≡ Some called → length called.heading.takes ≤ 16
+AreFew o = (called : Called) → o ≡ Some called → length called.heading.takes ≤ MOST_PARAMETERS
 
 abbrev some_or : {A : Type 0} → A → Option A → A
 some_or d None = d
 some_or d (Some x) = x
 
-few_same : {x y : Called} → Some x ≡ Some y → length x.heading.takes ≤ 16 → length y.heading.takes ≤ 16
-few_same {x} {y} e h = subst (λ z. length z.heading.takes ≤ 16) (ap (some_or x) e) h
+few_same : {x y : Called} → Some x ≡ Some y → length x.heading.takes ≤ MOST_PARAMETERS → length y.heading.takes ≤ MOST_PARAMETERS
+few_same {x} {y} e h = subst (λ z. length z.heading.takes ≤ MOST_PARAMETERS) (ap (some_or x) e) h
 
 none_few : {A B : Type 0} {x : A} → None ≡ Some x → B
 none_few e = absurd (true≢false (sym (ap is_some e)))
 
 abbrev is_few : Given → Bool
-is_few g = nat_le (length g.called.heading.takes) 16
+is_few g = nat_le (length g.called.heading.takes) MOST_PARAMETERS
 
 find_few_if : (g : Given) (b : Bool) (o : Option Given) → is_few g ≡ true → AreFew (option_map (λ (x : Given). x.called) o) → AreFew (option_map (λ (x : Given). x.called) (if b then Some g else o))
-find_few_if g true o h next called e = few_same e (leb-true (length g.called.heading.takes) 16 h)
+find_few_if g true o h next called e = few_same e (leb-true (length g.called.heading.takes) MOST_PARAMETERS h)
 find_few_if g false o h next called e = next called e
 
 find_few : (test : Given → Bool) (gs : List Given) → list_all is_few gs ≡ true → AreFew (option_map (λ (g : Given). g.called) (find test gs))
@@ -177,7 +180,7 @@ find_few test (g ∷ gs) all = find_few_if g (test g) (find test gs) (left_true 
 
 function_few : (d : Declared) → FewParams d → (n : ℕ) (o : Option Function) → slice_get d.functions n ≡ o → AreFew (option_map (λ (f : Function). record { callee = to.function n; heading = heading_of f }) o)
 function_few d few n None h called e = none_few e
-function_few d few n (Some f) h called e = few_same e (subst (λ k. k ≤ 16) (sym (length-map f.params (λ p. _))) (few n f h))
+function_few d few n (Some f) h called e = few_same e (subst (λ k. k ≤ MOST_PARAMETERS) (sym (length-map f.params (λ p. _))) (few n f h))
 
 number_few : (d : Declared) → FewParams d → (o : Option ℕ) → AreFew (option_and_then (called_function d.functions) o)
 number_few d few None called e = none_few e

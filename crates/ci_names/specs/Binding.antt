@@ -4,17 +4,15 @@
 -- files with a fault have no bound project.
 use Rattle.std.specs.Prelude.{◌≡◌, ℕ, pos, not, ◌&&◌, if◌then◌else◌, List, [], ◌∷◌, length, map, flat_map, replicate, Option, Some, None, option_map, unwrap_or}
 use Rattle.ci_base.specs.declared.value.Kind.{Kind}
-use Rattle.ci_base.specs.declared.value.Value.{Value}
-use Rattle.ci_base.specs.declared.value.Value.TheVariants as values
 use Rattle.ci_base.specs.declared.function.SharedName.TheVariants as requests
 use Rattle.ci_tree.specs.declared.tree.Param.{Param}
 use Rattle.ci_tree.specs.Tree as from
 use Rattle.ci_tree.specs.Bound as to
 use Rattle.ci_tree.specs.Bound.{Scalar, Callee, Call, Project}
-use Rattle.ci_names.specs.Given.{Taken, by_value, with_default, to_be_set, Called}
+use Rattle.ci_tree.specs.LeftOut.{Heads, call_given}
+use Rattle.ci_names.specs.Given.{Called}
 use Rattle.ci_names.specs.Declarations.{Function, Variable, Declared, declared_in, each_behind, kind_of_type, const_value, value_of_kind, given_kind, size_of, cells_of, is_array, kind_of_variable}
 use Rattle.ci_names.specs.Scopes.{Scope, Local, scope_of, with_locals, declared_local, locals_in, locals_in_block, locals_in_clauses, Meaning, scalar, array, meaning, callee}
-use Rattle.ci_names.specs.Kinds.{takes_of}
 use Rattle.ci_names.specs.Faults.{faults}
 
 -- the scalar that a name means
@@ -32,23 +30,18 @@ abbrev pub callee_of : Option Called → Callee
 callee_of (Some called) = called.callee
 callee_of None = to.function 0
 
--- a value that stands in the source's place
-abbrev pub constant : Value → to.Expr
-constant (values.Int n) = to.number n
-constant (values.Str text) = to.literal text
+abbrev pub bound_param : Param → to.Param
+bound_param p = record { kind = kind_of_type p.kind.name; first = option_map const_value p.first }
 
--- the values of the arguments that are left out
-abbrev pub left_out : List Taken → to.Exprs
-left_out [] = to.no_expr
-left_out ((with_default kind default) ∷ takes) = to.more (constant default) (left_out takes)
-left_out ((by_value kind) ∷ takes) = left_out takes
-left_out ((to_be_set kind) ∷ takes) = left_out takes
+-- what each declared function takes
+abbrev pub heads_in : Declared → Heads
+heads_in d = map (λ (f : Function). map bound_param f.params) d.functions
 
--- a call with these arguments; those that QueRead sets are scalars
-abbrev pub called_with : Callee → to.Exprs → Call
-called_with (to.shared requests.QueRead) (to.more queue (to.more (to.scalar sort) (to.more (to.scalar text) (to.more mode to.no_expr)))) =
+-- a call with these arguments in the source; those that QueRead sets are scalars
+abbrev pub called_with : Heads → Callee → to.Exprs → Call
+called_with heads (to.shared requests.QueRead) (to.more queue (to.more (to.scalar sort) (to.more (to.scalar text) (to.more mode to.no_expr)))) =
     to.que_read queue sort text mode
-called_with callee args = to.call callee args
+called_with heads callee args = call_given heads callee args
 
 abbrev mutual
   pub bound_expr : Scope → from.Expr → to.Expr
@@ -59,7 +52,7 @@ abbrev mutual
   bound_what s (from.literal text) = to.literal text
   bound_what s (from.name name) = to.scalar (scalar_of (meaning s name))
   bound_what s (from.element name index) = to.element (array_of (meaning s name)) (bound_expr s index)
-  bound_what s (from.call name args) = to.called (called_with (callee_of (callee s name)) (bound_args s (takes_of (callee s name)) args))
+  bound_what s (from.call name args) = to.called (called_with (heads_in s.declared) (callee_of (callee s name)) (bound_args s args))
   bound_what s (from.unary minus operand) = to.unary minus (bound_expr s operand)
   bound_what s (from.chain first rest) = to.chain (bound_expr s first) (bound_links s rest)
 
@@ -68,14 +61,13 @@ abbrev mutual
   bound_links s (from.operand at op right rest) = to.operand op (bound_expr s right) (bound_links s rest)
   bound_links s (from.hashes at count rest) = to.hashes count (bound_links s rest)
 
-  -- all arguments of a call, those that are left out among them
-  pub bound_args : Scope → List Taken → from.Exprs → to.Exprs
-  bound_args s takes from.no_expr = left_out takes
-  bound_args s [] (from.more first rest) = to.more (bound_expr s first) (bound_args s [] rest)
-  bound_args s (taken ∷ takes) (from.more first rest) = to.more (bound_expr s first) (bound_args s takes rest)
+  -- the arguments of a call that stand in the source
+  pub bound_args : Scope → from.Exprs → to.Exprs
+  bound_args s from.no_expr = to.no_expr
+  bound_args s (from.more first rest) = to.more (bound_expr s first) (bound_args s rest)
 
 abbrev pub bound_call : Scope → List ℕ → from.Exprs → Call
-bound_call s name args = called_with (callee_of (callee s name)) (bound_args s (takes_of (callee s name)) args)
+bound_call s name args = called_with (heads_in s.declared) (callee_of (callee s name)) (bound_args s args)
 
 -- Statements
 
@@ -136,9 +128,6 @@ abbrev mutual
   bound_block s (from.then first rest) = bound_before s first (bound_block (with_locals s (locals_in first)) rest)
 
 -- Declarations
-
-abbrev pub bound_param : Param → to.Param
-bound_param p = record { kind = kind_of_type p.kind.name; first = option_map const_value p.first }
 
 abbrev pub bound_function : Declared → Function → to.Function
 bound_function d f = record {

@@ -3,6 +3,7 @@ use Rattle.std.specs.Prelude.{ℕ, ◌+◌, ℤ, pos, negsuc, Bool, true, false,
 use Rattle.std.specs.List.{list_any}
 use Rattle.std.specs.Option.{option_or}
 use Rattle.std.specs.Str.{str_eq_ignore_ascii_case}
+use Rattle.ci_base.specs.declared.bounds.TheConstants.{MOST_CELLS}
 use Rattle.ci_base.specs.declared.value.Kind.{Kind}
 use Rattle.ci_base.specs.declared.value.Kind.TheVariants.{Int, Str}
 use Rattle.ci_base.specs.declared.value.Value.{Value}
@@ -140,13 +141,9 @@ function_named d file name = option_or (option_and_then (called_function d.funct
 
 -- Variables
 
--- the greatest length of an array
-abbrev pub array_limit : ℕ
-array_limit = 100000
-
 -- the number of cells of an array of this length; one whose length is refused has none
 abbrev pub array_size : ℤ → ℕ
-array_size (pos n) = if nat_le n array_limit then n else 0
+array_size (pos n) = if nat_le n MOST_CELLS then n else 0
 array_size (negsuc n) = 0
 
 abbrev pub size_said : Option Length → ℕ

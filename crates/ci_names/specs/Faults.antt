@@ -2,6 +2,7 @@
 use Rattle.std.specs.Prelude.{ℕ, ◌+◌, Bool, not, ◌&&◌, ◌||◌, nat_le, nat_lt, ◌==◌, List, [], ◌++◌, length, map, Option, Some, None, is_some, slice_get}
 use Rattle.std.specs.List.{list_any}
 use Rattle.std.specs.Str.{str_eq_ignore_ascii_case}
+use Rattle.ci_base.specs.declared.bounds.TheConstants.{MOST_FUNCTIONS, MOST_PARAMETERS, MOST_CELLS}
 use Rattle.ci_base.specs.declared.value.Kind.{Kind}
 use Rattle.ci_base.specs.declared.value.Kind.TheVariants.{Int, Str}
 use Rattle.ci_tree.specs.declared.tree.Length.{Length}
@@ -35,9 +36,6 @@ first_value s kind first = broken (differs kind (Some (const_kind first))) s (co
 
 -- Parameters
 
-abbrev pub parameter_limit : ℕ
-parameter_limit = 16
-
 -- the parameter has a default
 abbrev pub has_default : Param → Bool
 has_default p = is_some p.first
@@ -47,14 +45,11 @@ abbrev pub param_faults : Scope → List Param → Param → List Fault
 param_faults s before p =
     type_faults s p.kind
     ++ local_name (record s { locals = map param_local before }) p.at p.name
-    ++ broken (length before == parameter_limit) s p.at (kinds.Limit limits.Parameters)
+    ++ broken (length before == MOST_PARAMETERS) s p.at (kinds.Limit limits.Parameters)
     ++ broken (not (has_default p) && list_any has_default before) s p.at kinds.ArgumentCount
     ++ maybe (first_value s (kind_of_type p.kind.name)) p.first
 
 -- Functions
-
-abbrev pub function_limit : ℕ
-function_limit = 1000
 
 -- both have one name, and both would be seen: in their file, or everywhere
 abbrev pub same_function : Function → Function → Bool
@@ -65,15 +60,12 @@ abbrev pub function_faults : Declared → List Function → Function → List Fa
 function_faults d before f =
     let s = scope_of d f in
     broken (list_any (same_function f) before || is_some (given_named f.name)) s f.at kinds.DeclaredTwice
-    ++ broken (length before == function_limit) s f.at (kinds.Limit limits.Functions)
+    ++ broken (length before == MOST_FUNCTIONS) s f.at (kinds.Limit limits.Functions)
     ++ maybe (type_faults s) f.gives
     ++ each_behind (param_faults s) [] f.params
     ++ block_faults s f.body
 
 -- Variables
-
-abbrev pub cell_limit : ℕ
-cell_limit = 100000
 
 -- both have one name, and both would be seen: in their file, or everywhere
 abbrev pub same_variable : Variable → Variable → Bool
@@ -81,7 +73,7 @@ same_variable v w = str_eq_ignore_ascii_case v.name w.name && (v.file == w.file 
 
 -- with this variable the cells pass their limit
 abbrev pub passes_cells : List Variable → Variable → Bool
-passes_cells before v = nat_le (cells_of before) cell_limit && nat_lt cell_limit (cells_of before + size_of v)
+passes_cells before v = nat_le (cells_of before) MOST_CELLS && nat_lt MOST_CELLS (cells_of before + size_of v)
 
 -- the length of an array
 abbrev pub length_faults : Scope → Length → List Fault

@@ -1,5 +1,6 @@
 -- Laws of names and kinds.
-use Rattle.std.specs.Prelude.{◌≡◌, ◌≢◌, ℕ, ◌≤◌, true, false, List, [], ◌∷◌, Some, None, slice_get, length, All}
+use Rattle.std.specs.Prelude.{◌≡◌, ◌≢◌, ℕ, ◌<◌, ◌≤◌, true, false, List, [], ◌∷◌, Some, None, slice_get, length, sum_by, All}
+use Rattle.ci_base.specs.declared.bounds.TheConstants.{MOST_FILES, MOST_LEVELS, MOST_ROOM}
 use Rattle.ci_base.specs.declared.value.Kind.{Kind}
 use Rattle.ci_tree.specs.Tree.{Expr, Item}
 use Rattle.ci_tree.specs.Grammar.{Tokens, derives}
@@ -31,29 +32,31 @@ NoKindMeansFault = (s : Scope) (e : Expr) → kind_of s e ≡ None → expr_faul
 abbrev pub BoundIsSound : Type 0
 BoundIsSound = (files : List (List Item)) (project : Project) → binds files project → is_sound project ≡ true
 
--- each of these trees is derived from some tokens
+-- the tree is derived from some tokens
+abbrev pub IsDerived : List Item → Type 0
+IsDerived items = (tokens : Tokens) × derives tokens items
+
+-- each of these trees is
 abbrev pub AreDerived : List (List Item) → Type 0
 AreDerived [] = Unit {0}
-AreDerived (items ∷ files) = ((tokens : Tokens) × derives tokens items) × AreDerived files
+AreDerived (items ∷ files) = IsDerived items × AreDerived files
 
--- the functions of a project that derived trees bind to have rooms of at most 4,096
+-- the functions of a project that derived trees bind to have small rooms
 abbrev pub RoomsAreSmall : Type 0
 RoomsAreSmall =
-    (files : List (List Item)) (project : Project) → AreDerived files → binds files project → (n : ℕ) (f : Function) → slice_get project.functions n ≡ Some f → room f ≤ 4096
+    (files : List (List Item)) (project : Project) → AreDerived files → binds files project → (n : ℕ) (f : Function) → slice_get project.functions n ≡ Some f → room f ≤ MOST_ROOM
 
--- the functions of a project that derived trees bind to have at most 32 levels open at once
+-- the functions of a project that derived trees bind to nest no deeper than their sources
 abbrev pub NestingIsSmall : Type 0
-NestingIsSmall = (files : List (List Item)) (project : Project) → AreDerived files → binds files project → All (λ (f : Function). block_depth f.body ≤ 32) project.functions
+NestingIsSmall = (files : List (List Item)) (project : Project) → AreDerived files → binds files project → All (λ (f : Function). block_depth f.body ≤ MOST_LEVELS) project.functions
 
--- a project that at most 64 trees bind to, each of as many nodes as a file has at most, has at most 17 times their nodes
+-- a project has at most the nodes of the trees that bind to it
 abbrev pub NodesAreFew : Type 0
-NodesAreFew =
-    (files : List (List Item)) (project : Project) → length files ≤ 64 → All (λ (tree : List Item). source.nodes tree ≤ 262144) files → binds files project →
-    made.nodes project ≤ 285212672
+NodesAreFew = (files : List (List Item)) (project : Project) → binds files project → made.nodes project ≤ sum_by source.nodes files
 
--- what at most 64 trees of files bind to is a project
+-- what the trees of as many files as there may be bind to is a project
 abbrev pub BoundIsProject : Type 0
-BoundIsProject = (files : List (List Item)) (project : Project) → length files ≤ 64 → All IsFileTree files → binds files project → IsProject project
+BoundIsProject = (files : List (List Item)) (project : Project) → length files ≤ MOST_FILES → All IsFileTree files → binds files project → IsProject project
 
 -- these faults stand behind this one: it is before each, and none is before it
 abbrev pub AreBehind : Fault → List Fault → Type 0
@@ -78,3 +81,11 @@ FirstIsLeast =
 -- the first fault is found in one pass over what the rules find, which keeps the first so far
 abbrev pub FirstIsNoted : Type 0
 FirstIsNoted = (files : List (List Item)) → first_fault files ≡ noted None (declared_faults (declared_in files))
+
+-- the fault stands in one of the files, and at a token of whatever tokens that file is derived from
+abbrev pub NamesToken : List (List Item) → Fault → Type 0
+NamesToken files f = (items : List Item) × (slice_get files f.file ≡ Some items) × ((tokens : Tokens) → derives tokens items → f.token < length tokens)
+
+-- each fault of derived trees names a token of its file
+abbrev pub FaultsNameTokens : Type 0
+FaultsNameTokens = (files : List (List Item)) → AreDerived files → All (NamesToken files) (faults files)

@@ -2,6 +2,7 @@
 use Rattle.std.specs.Prelude.{ℕ, true, ◌==◌, List, [], ◌∷◌, ◌++◌, length, Option, Some, None}
 use Rattle.std.specs.List.{list_any}
 use Rattle.std.specs.Str.{str_eq_ignore_ascii_case}
+use Rattle.ci_base.specs.declared.bounds.TheConstants.{MOST_LOCALS}
 use Rattle.ci_base.specs.declared.value.Kind.{Kind}
 use Rattle.ci_base.specs.declared.value.Kind.TheVariants.{Int}
 use Rattle.ci_tree.specs.declared.tree.TypeAt.{TypeAt}
@@ -15,10 +16,6 @@ use Rattle.ci_names.specs.Scopes.{Scope, Local, with_locals, declared_local, loc
 use Rattle.ci_names.specs.Kinds.{takes_of, kind_of}
 use Rattle.ci_names.specs.Expressions.{broken, differ, start_of, wants_kind, call_faults, expr_faults, args_faults}
 
--- the greatest number of locals of a function, its parameters among them
-abbrev pub local_limit : ℕ
-local_limit = 64
-
 -- the type of a declaration
 abbrev pub type_faults : Scope → TypeAt → List Fault
 type_faults s t = broken (is_out_of_scope t.name) s t.at kinds.TypeOutOfScope
@@ -27,7 +24,7 @@ type_faults s t = broken (is_out_of_scope t.name) s t.at kinds.TypeOutOfScope
 abbrev pub local_name : Scope → ℕ → List ℕ → List Fault
 local_name s at name =
     broken (list_any (λ (l : Local). str_eq_ignore_ascii_case l.name name) s.locals) s at kinds.DeclaredTwice
-    ++ broken (length s.locals == local_limit) s at (kinds.Limit limits.Locals)
+    ++ broken (length s.locals == MOST_LOCALS) s at (kinds.Limit limits.Locals)
 
 -- a part that may be left out
 abbrev pub maybe : {A : Type 0} → (A → List Fault) → Option A → List Fault

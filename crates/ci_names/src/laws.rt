@@ -1,5 +1,5 @@
 //! Laws over the definitions.
-ghost use Rattle.ci_names.specs.Laws.{BoundIsProject, BoundIsSound, FaultsAreInOrder, FirstIsLeast, FirstIsNoted, KindMeansNoFault, NestingIsSmall, NoKindMeansFault, NodesAreFew, RoomsAreSmall};
+ghost use Rattle.ci_names.specs.Laws.{BoundIsProject, BoundIsSound, FaultsAreInOrder, FaultsNameTokens, FirstIsLeast, FirstIsNoted, KindMeansNoFault, NestingIsSmall, NoKindMeansFault, NodesAreFew, RoomsAreSmall};
 
 /// An expression has a kind exactly where no fault lies in it.
 pub fn kind_or_fault()
@@ -18,6 +18,11 @@ pub fn first_is_noted()
     ensures { FirstIsNoted }
 {}
 
+/// Each fault of files that tokens spell stands in one of them, and at one of its tokens.
+pub fn faults_name_tokens()
+    ensures { FaultsNameTokens }
+{}
+
 /// A bound project keeps the limits, each number in it names something, and all kinds and numbers of arguments are right.
 pub fn bound_is_sound()
     ensures { BoundIsSound }
@@ -33,8 +38,7 @@ pub fn nesting_is_small()
     ensures { NestingIsSmall }
 {}
 
-/// A project that is bound from at most 64 trees, each of at most 262,144 nodes, has at most 17 times as many: a call has at
-/// most 16 arguments that were left out.
+/// A bound project has at most as many nodes as its trees together.
 pub fn nodes_are_few()
     ensures { NodesAreFew }
 {}

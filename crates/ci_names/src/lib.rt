@@ -6,6 +6,6 @@ mod laws;
 
 pub use fault::{BindFault, BindKind, Fault, Limit};
 pub use laws::{
-    bound_is_project, bound_is_sound, faults_in_order, first_is_noted, kind_or_fault,
-    nesting_is_small, nodes_are_few, rooms_are_small,
+    bound_is_project, bound_is_sound, faults_in_order, faults_name_tokens, first_is_noted,
+    kind_or_fault, nesting_is_small, nodes_are_few, rooms_are_small,
 };

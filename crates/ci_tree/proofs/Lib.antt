@@ -1,1 +1,5 @@
 mod Examples
+pub mod Indices
+pub mod LayoutSteps
+pub mod Past
+pub mod Written

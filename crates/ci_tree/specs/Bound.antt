@@ -1,8 +1,7 @@
 -- Bound projects, as definitions speak of them: trees whose names are replaced by the numbers of what they mean.
 --
 -- Meaning and translation read these trees, so what is the same to both is the same here: each local of a declaration
--- that has a first value is an assignment, a call has all its arguments, those that were left out among them, and a
--- RETURN has its value. Functions, cells and arrays are numbered from 0 in the order of files and places, and the
+-- that has a first value is an assignment, a call has all its arguments, and a RETURN has its value. Functions, cells and arrays are numbered from 0 in the order of files and places, and the
 -- locals of a function in their order, its parameters first. Each `at` is the index of a statement's token in its file.
 use Rattle.std.specs.Prelude.{ℕ, ℤ, Bool, List, [], ◌∷◌, Option, Some, None}
 use Rattle.ci_base.specs.declared.value.Kind.{Kind}
@@ -10,7 +9,7 @@ use Rattle.ci_base.specs.declared.value.Value.{Value}
 use Rattle.ci_base.specs.declared.function.PrivateName.{PrivateName}
 use Rattle.ci_base.specs.declared.function.SharedName.{SharedName}
 use Rattle.ci_tree.specs.declared.tree.Operator.{Operator}
-use Rattle.ci_tree.specs.declared.tree.Relation.{Relation}
+use Rattle.ci_base.specs.declared.relation.Relation.{Relation}
 
 -- a variable without an index: a local of the function, or a shared cell
 pub data Scalar : Type 0 where
@@ -34,9 +33,10 @@ mutual
     unary : (minus : Bool) (operand : Expr) → Expr
     chain : (first : Expr) (rest : Links) → Expr
 
-  -- a call; QueRead is apart, since its second and third argument are set
+  -- A call: the first `given` of its arguments stand in the source, and the others are the values for those that were left
+  -- out. QueRead is apart, since its second and third argument are set.
   pub data Call : Type 0 where
-    call : (callee : Callee) (args : Exprs) → Call
+    call : (callee : Callee) (given : ℕ) (args : Exprs) → Call
     que_read : (queue : Expr) (sort text : Scalar) (mode : Expr) → Call
 
   -- the members of a chain behind the first

@@ -1,6 +1,7 @@
--- How many nodes a bound project has: its functions, their parameters and other locals, statements, clauses of SELECT and
--- expressions. The arguments that were left out count as the others do.
-use Rattle.std.specs.Prelude.{ℕ, ◌+◌, List, [], ◌∷◌, length, sum_by}
+-- How many nodes a bound project has: its functions, their parameters, statements, clauses of SELECT and expressions. What a
+-- source may leave out is none of them: the values for arguments that were left out don't count, and a RETURN counts with its
+-- value as one. So there are no more nodes than the trees have.
+use Rattle.std.specs.Prelude.{ℕ, zero, suc, ◌+◌, length, sum_by}
 use Rattle.ci_tree.specs.Bound as to
 use Rattle.ci_tree.specs.Bound.{Expr, Call, Links, Exprs, Label, Stmt, Other, Clauses, Block, Function, Project}
 
@@ -15,9 +16,9 @@ abbrev mutual
   expr_nodes (to.unary minus operand) = 1 + expr_nodes operand
   expr_nodes (to.chain first rest) = 1 + expr_nodes first + links_nodes rest
 
-  -- the arguments of a call; two of QueRead are scalars
+  -- the arguments of a call that stand in the source; two of QueRead are scalars
   pub call_nodes : Call → ℕ
-  call_nodes (to.call callee args) = exprs_nodes args
+  call_nodes (to.call callee given args) = exprs_nodes given args
   call_nodes (to.que_read queue sort text mode) = expr_nodes queue + 2 + expr_nodes mode
 
   pub links_nodes : Links → ℕ
@@ -25,9 +26,11 @@ abbrev mutual
   links_nodes (to.operand operator right rest) = expr_nodes right + links_nodes rest
   links_nodes (to.hashes count rest) = links_nodes rest
 
-  pub exprs_nodes : Exprs → ℕ
-  exprs_nodes to.no_expr = 0
-  exprs_nodes (to.more first rest) = expr_nodes first + exprs_nodes rest
+  -- the first so many arguments
+  pub exprs_nodes : ℕ → Exprs → ℕ
+  exprs_nodes given to.no_expr = 0
+  exprs_nodes zero (to.more first rest) = 0
+  exprs_nodes (suc given) (to.more first rest) = expr_nodes first + exprs_nodes given rest
 
 abbrev pub label_nodes : Label → ℕ
 label_nodes (to.one value) = expr_nodes value
@@ -44,7 +47,7 @@ abbrev mutual
   stmt_nodes (to.while at test body) = 1 + expr_nodes test + block_nodes body
   stmt_nodes (to.for at counter first last body) = 1 + expr_nodes first + expr_nodes last + block_nodes body
   stmt_nodes (to.select at subject clauses last) = 1 + expr_nodes subject + clauses_nodes clauses + block_nodes last
-  stmt_nodes (to.return at value) = 1 + expr_nodes value
+  stmt_nodes (to.return at value) = expr_nodes value
 
   pub other_nodes : Other → ℕ
   other_nodes to.no_other = 0
@@ -59,7 +62,7 @@ abbrev mutual
   block_nodes (to.then first rest) = stmt_nodes first + block_nodes rest
 
 abbrev pub function_nodes : Function → ℕ
-function_nodes f = 1 + length f.params + length f.others + block_nodes f.body
+function_nodes f = 1 + length f.params + block_nodes f.body
 
 abbrev pub nodes : Project → ℕ
 nodes p = sum_by function_nodes p.functions

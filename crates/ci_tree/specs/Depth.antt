@@ -15,7 +15,7 @@ abbrev mutual
   depth (to.chain first rest) = max (depth first) (links_depth rest)
 
   pub call_depth : Call → ℕ
-  call_depth (to.call callee args) = 1 + args_depth args
+  call_depth (to.call callee given args) = 1 + args_depth args
   call_depth (to.que_read queue sort text mode) = 1 + max (depth queue) (depth mode)
 
   pub links_depth : Links → ℕ

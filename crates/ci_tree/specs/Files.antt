@@ -1,5 +1,6 @@
 -- The trees of files.
 use Rattle.std.specs.Prelude.{◌≤◌, List, map}
+use Rattle.ci_base.specs.declared.bounds.TheConstants.{MOST_TOKENS}
 use Rattle.ci_tree.specs.declared.token.Token.{Token}
 use Rattle.ci_tree.specs.Grammar.{derives}
 use Rattle.ci_tree.specs.Nodes.{nodes}
@@ -12,4 +13,4 @@ pub record IsFileTree (tree : List Item) : Type 0 where
   pub tokens : List Token
   pub kept : AreKept 0 tokens
   pub derived : derives (map (λ (t : Token). t.what) tokens) tree
-  pub within : nodes tree ≤ 262144
+  pub within : nodes tree ≤ MOST_TOKENS

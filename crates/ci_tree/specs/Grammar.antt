@@ -10,6 +10,7 @@
 -- A spelling is a function, and nothing has to be cut in pieces: so a spelling can be read back by computation.
 use Rattle.std.specs.Prelude.{◌≡◌, ℕ, zero, suc, ℤ, Bool, true, false, List, [], ◌∷◌, ◌++◌, Option, Some, None}
 use Rattle.std.specs.Int.{w32, int_wrapping_neg}
+use Rattle.ci_base.specs.declared.bounds.TheConstants.{MOST_LEVELS}
 use Rattle.ci_tree.specs.declared.token.TokenKind.{TokenKind}
 use Rattle.ci_tree.specs.declared.token.TokenKind.TheVariants.{Name, Keyword, Number, Text, Hashes, Sign}
 use Rattle.ci_tree.specs.declared.token.Keyword.TheVariants as word
@@ -22,8 +23,8 @@ use Rattle.ci_tree.specs.declared.tree.Const.TheVariants as const
 use Rattle.ci_tree.specs.declared.tree.Param.{Param}
 use Rattle.ci_tree.specs.declared.tree.Operator.{Operator}
 use Rattle.ci_tree.specs.declared.tree.Operator.TheVariants as operator
-use Rattle.ci_tree.specs.declared.tree.Relation.{Relation}
-use Rattle.ci_tree.specs.declared.tree.Relation.TheVariants as relation
+use Rattle.ci_base.specs.declared.relation.Relation.{Relation}
+use Rattle.ci_base.specs.declared.relation.Relation.TheVariants as relation
 use Rattle.ci_tree.specs.Tree as to
 use Rattle.ci_tree.specs.Tree.{Expr, Links, Exprs, Block, Other, Clauses, Item, Stmt}
 
@@ -679,7 +680,7 @@ tree_file i (d ∷ ds) = tree_definition i d ++ tree_file (after_definition i d)
 
 -- how many levels may be open at once
 abbrev pub nesting : ℕ
-nesting = 32
+nesting = MOST_LEVELS
 
 -- The tokens spell the tree, with no more levels open at once than there may be.
 pub record derives (tokens : Tokens) (tree : List Item) : Type 0 where

@@ -1,9 +1,13 @@
 pub mod Bound
 pub mod BoundNodes
+pub mod BoundTests
 pub mod Comments
 pub mod Depth
 pub mod Files
 pub mod Grammar
+pub mod Laws
+pub mod Layouts
+pub mod LeftOut
 pub mod Longest
 pub mod Nodes
 pub mod Operators
@@ -18,3 +22,4 @@ pub mod Sound
 pub mod Tokens
 pub mod Tree
 pub mod Words
+pub mod Written

@@ -15,8 +15,8 @@ use Rattle.ci_tree.specs.declared.tree.TypeName.{TypeName}
 use Rattle.ci_tree.specs.declared.tree.TypeName.TheVariants as type_name
 use Rattle.ci_tree.specs.declared.tree.Operator.{Operator}
 use Rattle.ci_tree.specs.declared.tree.Operator.TheVariants as operator
-use Rattle.ci_tree.specs.declared.tree.Relation.{Relation}
-use Rattle.ci_tree.specs.declared.tree.Relation.TheVariants as relations
+use Rattle.ci_base.specs.declared.relation.Relation.{Relation}
+use Rattle.ci_base.specs.declared.relation.Relation.TheVariants as relations
 use Rattle.ci_tree.specs.Grammar.{Tokens, group_of, form_group, nesting}
 
 -- What is refused, and at which token.

@@ -16,7 +16,7 @@ abbrev mutual
   width (to.chain first rest) = max (width first) (links_width rest)
 
   pub call_width : Call → ℕ
-  call_width (to.call callee args) = max 1 (args_width 0 args)
+  call_width (to.call callee given args) = max 1 (args_width 0 args)
   call_width (to.que_read queue sort text mode) = max (width queue) (max (1 + width mode) 2)
 
   -- the left operand waits

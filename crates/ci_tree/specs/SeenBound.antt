@@ -1,4 +1,5 @@
--- Which bound project a value of the code is.
+-- Which bound project a value of the code is. The value keeps the arguments that stand in the source; those that were left out
+-- are added by what the functions of the project take, their heads.
 use Rattle.std.specs.Prelude.{List, map, option_map}
 use Rattle.ci_tree.specs.declared.bound.Call.{fold-Call}
 use Rattle.ci_tree.specs.declared.bound.Call.TheFolds.{fold-Expr, fold-Link}
@@ -25,6 +26,7 @@ use Rattle.ci_tree.specs.declared.bound.Global as code_global
 use Rattle.ci_tree.specs.declared.bound.ProjectParts as code_project
 use Rattle.ci_tree.specs.Bound as to
 use Rattle.ci_tree.specs.Bound.{exprs_from, links_from, block_from, clauses_from, other_from}
+use Rattle.ci_tree.specs.LeftOut.{Heads, call_given}
 
 -- a variable without an index
 abbrev pub scalar_of : code_scalar.Scalar → to.Scalar
@@ -47,79 +49,83 @@ expr_layer (Expr-F.Called what) = to.called what
 expr_layer (Expr-F.Unary minus operand) = to.unary minus operand
 expr_layer (Expr-F.Chain first rest) = to.chain first (links_from rest)
 
-abbrev pub call_layer : Call-F to.Call to.Expr to.Link → to.Call
-call_layer (Call-F.Plain callee args) = to.call (callee_of callee) (exprs_from args)
-call_layer (Call-F.QueRead queue sort text mode) = to.que_read queue (scalar_of sort) (scalar_of text) mode
+abbrev pub call_layer : Heads → Call-F to.Call to.Expr to.Link → to.Call
+call_layer heads (Call-F.Plain callee args) = call_given heads (callee_of callee) (exprs_from args)
+call_layer heads (Call-F.QueRead queue sort text mode) = to.que_read queue (scalar_of sort) (scalar_of text) mode
 
 abbrev pub link_layer : Link-F to.Call to.Expr to.Link → to.Link
 link_layer (Link-F.Operand operator operand) = to.operand_link operator operand
 link_layer (Link-F.Hashes count) = to.hashes_link count
 
 -- the expression
-abbrev pub expr_of : code_expr.Expr → to.Expr
-expr_of = fold-Expr to.Call to.Expr to.Link call_layer expr_layer link_layer
+abbrev pub expr_of : Heads → code_expr.Expr → to.Expr
+expr_of heads = fold-Expr to.Call to.Expr to.Link (call_layer heads) expr_layer link_layer
 
 -- the call
-abbrev pub call_of : code_call.Call → to.Call
-call_of = fold-Call to.Call to.Expr to.Link call_layer expr_layer link_layer
+abbrev pub call_of : Heads → code_call.Call → to.Call
+call_of heads = fold-Call to.Call to.Expr to.Link (call_layer heads) expr_layer link_layer
 
 -- the member of a chain
-abbrev pub link_of : code_link.Link → to.Link
-link_of = fold-Link to.Call to.Expr to.Link call_layer expr_layer link_layer
+abbrev pub link_of : Heads → code_link.Link → to.Link
+link_of heads = fold-Link to.Call to.Expr to.Link (call_layer heads) expr_layer link_layer
 
-abbrev pub exprs_of : List code_expr.Expr → to.Exprs
-exprs_of es = exprs_from (map expr_of es)
+abbrev pub exprs_of : Heads → List code_expr.Expr → to.Exprs
+exprs_of heads es = exprs_from (map (expr_of heads) es)
 
-abbrev pub links_of : List code_link.Link → to.Links
-links_of ls = links_from (map link_of ls)
+abbrev pub links_of : Heads → List code_link.Link → to.Links
+links_of heads ls = links_from (map (link_of heads) ls)
 
 -- the label
-abbrev pub label_of : code_label.Label → to.Label
-label_of (labels.One value) = to.one (expr_of value)
-label_of (labels.Range low high) = to.range (expr_of low) (expr_of high)
-label_of (labels.Is relation value) = to.compared relation (expr_of value)
+abbrev pub label_of : Heads → code_label.Label → to.Label
+label_of heads (labels.One value) = to.one (expr_of heads value)
+label_of heads (labels.Range low high) = to.range (expr_of heads low) (expr_of heads high)
+label_of heads (labels.Is relation value) = to.compared relation (expr_of heads value)
 
 -- one layer of a statement
-abbrev pub stmt_layer : Stmt-F to.Stmt to.Clause → to.Stmt
-stmt_layer (Stmt-F.Assign at target value) = to.assign at (scalar_of target) (expr_of value)
-stmt_layer (Stmt-F.AssignElement at array index value) = to.assign_element at array (expr_of index) (expr_of value)
-stmt_layer (Stmt-F.CallOf at what) = to.call_of at (call_of what)
-stmt_layer (Stmt-F.If at test body other) = to.choose at (expr_of test) (block_from body) (other_from (option_map block_from other))
-stmt_layer (Stmt-F.While at test body) = to.while at (expr_of test) (block_from body)
-stmt_layer (Stmt-F.For at counter first last body) = to.for at (scalar_of counter) (expr_of first) (expr_of last) (block_from body)
-stmt_layer (Stmt-F.Select at subject clauses other) = to.select at (expr_of subject) (clauses_from clauses) (block_from other)
-stmt_layer (Stmt-F.Return at value) = to.return at (expr_of value)
+abbrev pub stmt_layer : Heads → Stmt-F to.Stmt to.Clause → to.Stmt
+stmt_layer heads (Stmt-F.Assign at target value) = to.assign at (scalar_of target) (expr_of heads value)
+stmt_layer heads (Stmt-F.AssignElement at array index value) = to.assign_element at array (expr_of heads index) (expr_of heads value)
+stmt_layer heads (Stmt-F.CallOf at what) = to.call_of at (call_of heads what)
+stmt_layer heads (Stmt-F.If at test body other) = to.choose at (expr_of heads test) (block_from body) (other_from (option_map block_from other))
+stmt_layer heads (Stmt-F.While at test body) = to.while at (expr_of heads test) (block_from body)
+stmt_layer heads (Stmt-F.For at counter first last body) = to.for at (scalar_of counter) (expr_of heads first) (expr_of heads last) (block_from body)
+stmt_layer heads (Stmt-F.Select at subject clauses other) = to.select at (expr_of heads subject) (clauses_from clauses) (block_from other)
+stmt_layer heads (Stmt-F.Return at value) = to.return at (expr_of heads value)
 
-abbrev pub clause_layer : Clause-F to.Stmt to.Clause → to.Clause
-clause_layer c = record { labels = map label_of c.labels; body = block_from c.body }
+abbrev pub clause_layer : Heads → Clause-F to.Stmt to.Clause → to.Clause
+clause_layer heads c = record { labels = map (label_of heads) c.labels; body = block_from c.body }
 
 -- the statement
-abbrev pub stmt_of : code_stmt.Stmt → to.Stmt
-stmt_of = fold-Stmt to.Stmt to.Clause stmt_layer clause_layer
+abbrev pub stmt_of : Heads → code_stmt.Stmt → to.Stmt
+stmt_of heads = fold-Stmt to.Stmt to.Clause (stmt_layer heads) (clause_layer heads)
 
 -- the clause
-abbrev pub clause_of : code_clause.Clause → to.Clause
-clause_of = fold-Clause to.Stmt to.Clause stmt_layer clause_layer
+abbrev pub clause_of : Heads → code_clause.Clause → to.Clause
+clause_of heads = fold-Clause to.Stmt to.Clause (stmt_layer heads) (clause_layer heads)
 
-abbrev pub block_of : List code_stmt.Stmt → to.Block
-block_of ss = block_from (map stmt_of ss)
+abbrev pub block_of : Heads → List code_stmt.Stmt → to.Block
+block_of heads ss = block_from (map (stmt_of heads) ss)
 
-abbrev pub clauses_of : List code_clause.Clause → to.Clauses
-clauses_of cs = clauses_from (map clause_of cs)
+abbrev pub clauses_of : Heads → List code_clause.Clause → to.Clauses
+clauses_of heads cs = clauses_from (map (clause_of heads) cs)
 
 abbrev pub param_of : code_param.Param → to.Param
 param_of p = record { kind = p.kind; first = p.first }
 
+-- what each of these functions takes
+abbrev pub heads_of : List code_function.Function → Heads
+heads_of fs = map (λ (f : code_function.Function). map param_of f.params) fs
+
 -- the function
-abbrev pub function_of : code_function.Function → to.Function
-function_of f = record {
+abbrev pub function_of : Heads → code_function.Function → to.Function
+function_of heads f = record {
   file = f.file;
   name = f.name;
   public = f.public;
   gives = f.gives;
   params = map param_of f.params;
   others = f.others;
-  body = block_of f.body;
+  body = block_of heads f.body;
 }
 
 abbrev pub cell_of : code_cell.Cell → to.Cell
@@ -134,7 +140,7 @@ global_of g = record { name = g.name; cell = g.cell }
 -- the project
 abbrev pub project_of : code_project.ProjectParts → to.Project
 project_of p = record {
-  functions = map function_of p.functions;
+  functions = map (function_of (heads_of p.functions)) p.functions;
   cells = map cell_of p.cells;
   arrays = map array_of p.arrays;
   globals = map global_of p.globals;

@@ -2,6 +2,7 @@
 -- are right, and the limits are kept.
 use Rattle.std.specs.Prelude.{ℕ, ◌+◌, Bool, true, false, ◌&&◌, nat_le, nat_lt, if◌then◌else◌, List, [], ◌∷◌, ◌++◌, length, map, take, drop, Option, Some, None, is_some, option_map, unwrap_or, slice_get}
 use Rattle.std.specs.List.{list_all}
+use Rattle.ci_base.specs.declared.bounds.TheConstants.{MOST_FUNCTIONS, MOST_PARAMETERS, MOST_LOCALS, MOST_CELLS}
 use Rattle.ci_base.specs.declared.value.Kind.{Kind}
 use Rattle.ci_base.specs.declared.value.Kind.TheVariants.{Int, Str}
 use Rattle.ci_base.specs.declared.value.Value.{Value}
@@ -69,12 +70,12 @@ abbrev mutual
 
   -- the kind of the value of a call, where it has one
   pub call_kind : Context → Call → Option Kind
-  call_kind c (to.call callee args) = gives_of (signature c callee)
+  call_kind c (to.call callee given args) = gives_of (signature c callee)
   call_kind c (to.que_read queue sort text mode) = Some Int
 
   -- what is called is there, and the arguments are right
   pub is_call : Context → Call → Bool
-  is_call c (to.call callee args) = is_some (signature c callee) && have_kinds c (takes_of (signature c callee)) args
+  is_call c (to.call callee given args) = is_some (signature c callee) && have_kinds c (takes_of (signature c callee)) args
   is_call c (to.que_read queue sort text mode) =
       has_kind Int (kind_of c queue) && has_kind Int (scalar_kind c sort) && has_kind Str (scalar_kind c text) && has_kind Int (kind_of c mode)
 
@@ -144,8 +145,8 @@ context_of p f = record { project = p; locals = param_kinds f ++ f.others; gives
 
 abbrev pub is_function : Project → Function → Bool
 is_function p f =
-    nat_le (length f.params) 16
-    && nat_le (length f.params + length f.others) 64
+    nat_le (length f.params) MOST_PARAMETERS
+    && nat_le (length f.params + length f.others) MOST_LOCALS
     && list_all (λ (q : Param). is_default q.kind q.first) f.params
     && are_last f.params
     && is_block (context_of p f) f.body
@@ -166,8 +167,8 @@ is_global p g = nat_lt g.cell (length p.cells)
 -- the project is right
 abbrev pub is_sound : Project → Bool
 is_sound p =
-    nat_le (length p.functions) 1000
-    && nat_le (length p.cells) 100000
+    nat_le (length p.functions) MOST_FUNCTIONS
+    && nat_le (length p.cells) MOST_CELLS
     && list_all (is_function p) p.functions
     && list_all is_cell p.cells
     && list_all (is_array p) p.arrays

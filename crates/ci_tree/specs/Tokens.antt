@@ -1,6 +1,7 @@
 -- The tokens of a source.
 use Rattle.std.specs.Prelude.{◌≡◌, ℕ, ◌+◌, ◌≤◌, ◌<◌, true, false, ◌&&◌, ◌⊎◌, List, [], ◌∷◌, ◌++◌, length, ◌==◌, Some, None, IsTrue, pos, FitsSigned, if◌then◌else◌}
 use Rattle.std.proofs.Common.{w32}
+use Rattle.ci_base.specs.declared.bounds.TheConstants.{MOST_SOURCE_BYTES, MOST_NAME_BYTES, MOST_TEXT_BYTES, MOST_HASHES}
 use Rattle.ci_base.specs.Letters.{is_letter, is_run, begins}
 use Rattle.ci_base.specs.Names.{is_name}
 use Rattle.ci_base.specs.Numbers.{is_number, number_value, number_limit, wrap}
@@ -15,13 +16,13 @@ use Rattle.ci_tree.specs.Words.{reserved}
 
 -- the token is spelled so, within the limits of its kind
 abbrev pub Spells : TokenKind → List ℕ → Type 0
-Spells (kinds.Name bytes) s = (bytes ≡ s) × IsTrue (is_name s) × (reserved s ≡ None) × (length s ≤ 64)
+Spells (kinds.Name bytes) s = (bytes ≡ s) × IsTrue (is_name s) × (reserved s ≡ None) × (length s ≤ MOST_NAME_BYTES)
 Spells (kinds.Keyword word) s = IsTrue (is_name s) × (reserved s ≡ Some (kinds.Keyword word))
 Spells (kinds.Number value) s =
     (IsTrue (is_name s) × (reserved s ≡ Some (kinds.Number value)))
     ⊎ (IsTrue (is_number s) × (number_value s ≤ number_limit s) × (value ≡ wrap (pos (number_value s))))
-Spells (kinds.Text value) s = IsText s value × (length value ≤ 255)
-Spells (kinds.Hashes count) s = IsTrue (is_run is_hash s) × (count ≡ length s) × (length s ≤ 255)
+Spells (kinds.Text value) s = IsText s value × (length value ≤ MOST_TEXT_BYTES)
+Spells (kinds.Hashes count) s = IsTrue (is_run is_hash s) × (count ≡ length s) × (length s ≤ MOST_HASHES)
 Spells (kinds.Sign sign) s = s ≡ sign_bytes sign
 
 -- s is a blank, as long as possible, and then the rest
@@ -57,14 +58,14 @@ tokens source ts = Reads (length source) (after_mark source) ts []
 
 -- what a token keeps of its kind's spelling
 abbrev pub IsKept : TokenKind → Type 0
-IsKept (kinds.Name bytes) = IsTrue (is_name bytes) × (reserved bytes ≡ None) × (length bytes ≤ 64)
+IsKept (kinds.Name bytes) = IsTrue (is_name bytes) × (reserved bytes ≡ None) × (length bytes ≤ MOST_NAME_BYTES)
 IsKept (kinds.Keyword word) = Unit {0}
 IsKept (kinds.Number value) = FitsSigned w32 value
-IsKept (kinds.Text value) = length value ≤ 255
-IsKept (kinds.Hashes count) = (1 ≤ count) × (count ≤ 255)
+IsKept (kinds.Text value) = length value ≤ MOST_TEXT_BYTES
+IsKept (kinds.Hashes count) = (1 ≤ count) × (count ≤ MOST_HASHES)
 IsKept (kinds.Sign sign) = Unit {0}
 
 -- tokens whose places rise from low on and lie within a source of at most 262,144 bytes
 abbrev pub AreKept : ℕ → List Token → Type 0
 AreKept low [] = Unit {0}
-AreKept low (t ∷ ts) = IsKept t.what × (low ≤ t.place) × (t.place < 262144) × AreKept (t.place + 1) ts
+AreKept low (t ∷ ts) = IsKept t.what × (low ≤ t.place) × (t.place < MOST_SOURCE_BYTES) × AreKept (t.place + 1) ts

@@ -9,7 +9,7 @@ use Rattle.ci_tree.specs.declared.tree.TypeAt.{TypeAt}
 use Rattle.ci_tree.specs.declared.tree.Length.{Length}
 use Rattle.ci_tree.specs.declared.tree.Const.{Const}
 use Rattle.ci_tree.specs.declared.tree.Operator.{Operator}
-use Rattle.ci_tree.specs.declared.tree.Relation.{Relation}
+use Rattle.ci_base.specs.declared.relation.Relation.{Relation}
 use Rattle.ci_tree.specs.declared.tree.Param.{Param}
 
 mutual

@@ -3,8 +3,8 @@
 
 mod making;
 
-use crate::tree::{Operator, Relation};
-use ci_base::{Bytes, Kind, PrivateName, SharedName, Value};
+use crate::tree::Operator;
+use ci_base::{Bytes, Kind, PrivateName, Relation, SharedName, Value};
 use sqlite_items::{Boxed, Items};
 
 /// A variable without an index.
@@ -58,8 +58,8 @@ pub enum Expr {
     },
 }
 
-/// A call with all its arguments, those that were left out among them. QueRead is apart, since its second and third argument
-/// are set.
+/// A call with the arguments that stand in the source; nothing is kept for those that were left out. QueRead is apart, since
+/// its second and third argument are set.
 #[cycle(bound_expressions)]
 #[derive(Debug, Drop)]
 pub enum Call {
@@ -91,7 +91,8 @@ pub enum Label {
     Is { relation: Relation, value: Expr },
 }
 
-/// A statement. `at` is its first token; that of an assignment which a declaration makes is its local's.
+/// A statement. `at` is its first token; that of an assignment which a declaration makes is its local's. Most statements are
+/// calls and assignments, so the parts of the others stand in boxes, and no statement takes more room than those.
 #[cycle(bound_statements)]
 #[derive(Debug, Drop)]
 pub enum Stmt {
@@ -103,7 +104,7 @@ pub enum Stmt {
     AssignElement {
         at: u32,
         array: usize,
-        index: Expr,
+        index: Boxed<Expr>,
         value: Expr,
     },
     CallOf {
@@ -112,7 +113,7 @@ pub enum Stmt {
     },
     If {
         at: u32,
-        test: Expr,
+        test: Boxed<Expr>,
         body: Items<Stmt>,
         other: Option<Items<Stmt>>,
     },
@@ -124,14 +125,14 @@ pub enum Stmt {
     For {
         at: u32,
         counter: Scalar,
-        from: Expr,
-        to: Expr,
+        from: Boxed<Expr>,
+        to: Boxed<Expr>,
         body: Items<Stmt>,
     },
     /// Without ELSE `other` is empty.
     Select {
         at: u32,
-        subject: Expr,
+        subject: Boxed<Expr>,
         clauses: Items<Clause>,
         other: Items<Stmt>,
     },

@@ -1,5 +1,6 @@
 //! The trees of several files.
 ghost use Rattle.std.specs.Prelude.{◌≡◌, ◌≤◌, ◌<◌, ◌++◌, [], ◌∷◌, length, OnOk, OnErr};
+ghost use Rattle.ci_base.specs.declared.bounds.TheConstants.{MOST_FILES};
 
 use crate::file_tree::FileTree;
 use ci_base::OutOfMemory;
@@ -14,6 +15,7 @@ pub struct FileTrees {
 
 impl Model for FileTrees {
     ghost use Rattle.std.specs.Prelude.{List, ◌≤◌, length};
+    ghost use Rattle.ci_base.specs.declared.bounds.TheConstants.{MOST_FILES};
     ghost use Rattle.std.specs.Coded.{coded_list};
     ghost use Rattle.ci_tree.specs.declared.tree.Item.{Item};
     ghost use Rattle.ci_tree.specs.contracts.tree.Item.{the_row};
@@ -24,7 +26,7 @@ impl Model for FileTrees {
 
     ghost view = { λ trees. trees.kept.items };
 
-    ghost invariant = { λ trees. length trees.kept.items ≤ 64 };
+    ghost invariant = { λ trees. length trees.kept.items ≤ MOST_FILES };
 }
 
 impl FileTrees {
@@ -39,7 +41,7 @@ impl FileTrees {
 
     /// Adds the tree at the end, for which there is room. Where there is no memory for it, nothing changes.
     pub fn add(&mut self, tree: FileTree) -> Result<(), OutOfMemory>
-        requires { length self.old < 64 }
+        requires { length self.old < MOST_FILES }
         ensures ok { OnOk result (self.new ≡ self.old ++ tree ∷ []) }
         ensures err { OnErr result (self.new ≡ self.old) }
     {
@@ -52,7 +54,7 @@ impl FileTrees {
     /// The trees, in order.
     pub fn trees(&self) -> &[FileTree]
         ensures value { result.now ≡ self.now }
-        ensures within { length result.now ≤ 64 }
+        ensures within { length result.now ≤ MOST_FILES }
     {
         self.kept.as_slice()
     }

@@ -4,6 +4,8 @@
 pub mod bound;
 mod file_tree;
 mod file_trees;
+mod laws;
+mod layouts;
 mod lists;
 mod making;
 mod project;
@@ -13,12 +15,14 @@ mod tree;
 
 pub use file_tree::FileTree;
 pub use file_trees::FileTrees;
+pub use laws::files_are_written;
+pub use layouts::layout;
 pub use lists::list_with_room;
 pub use project::Project;
 pub use token::{Keyword, Sign, Token, TokenKind, TokenList};
 pub use trace_project::{TextList, TraceProject};
 pub use tree::{
     Clause, ClauseList, Const, Expr, ExprKind, ExprList, Item, ItemList, Label, LabelList, Length,
-    Link, LinkList, LocalAt, LocalAtList, Operator, Param, ParamList, Relation, Stmt, StmtList,
-    TypeAt, TypeName,
+    Link, LinkList, LocalAt, LocalAtList, Operator, Param, ParamList, Stmt, StmtList, TypeAt,
+    TypeName,
 };

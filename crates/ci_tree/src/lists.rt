@@ -1,5 +1,5 @@
 //! The lists that trees are made of.
-ghost use Rattle.std.specs.Prelude.{◌≡◌, [], IfOk};
+ghost use Rattle.std.specs.Prelude.{◌≡◌, [], ◌∷◌, ◌++◌, IfOk, OnOk};
 
 use ci_base::OutOfMemory;
 use sqlite_items::Items;
@@ -10,8 +10,25 @@ use std::alloc::Global;
 pub fn list_with_room<T>(alloc: Global, room: usize) -> Result<Items<T>, OutOfMemory>
     ensures { IfOk result (λ list. list ≡ []) }
 {
+    Ok(Items::from_vec(room_for(alloc, room)?))
+}
+
+/// The same as a plain list.
+pub(crate) fn room_for<T>(alloc: Global, room: usize) -> Result<Vec<T>, OutOfMemory>
+    ensures { IfOk result (λ list. list.items ≡ []) }
+{
     match Vec::with_capacity(alloc, room) {
-        Ok(list) => Ok(Items::from_vec(list)),
+        Ok(list) => Ok(list),
+        Err(_) => Err(OutOfMemory),
+    }
+}
+
+/// Adds the member at the end.
+pub(crate) fn push<T: Drop>(list: &mut Vec<T>, member: T) -> Result<(), OutOfMemory>
+    ensures { OnOk result (list.new.items ≡ list.old.items ++ member ∷ []) }
+{
+    match list.push(member) {
+        Ok(()) => Ok(()),
         Err(_) => Err(OutOfMemory),
     }
 }

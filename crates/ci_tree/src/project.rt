@@ -8,7 +8,8 @@ use std::marker::Model;
 
 /// A bound project whose numbers name what there is, whose kinds and numbers of arguments are right, and which keeps the
 /// limits: at most 1,000 functions of at most 16 parameters and 64 locals, 100,000 cells, 32 levels open at once, a room of
-/// 4,096, and 285,212,672 nodes. Contracts see its parts.
+/// 4,096, and 16,777,216 nodes. Its names are names of the language, its texts have at most 255 bytes, its arrays share no
+/// cells, and neither do its GLOBAL scalars. Contracts see its parts.
 #[derive(Debug, Drop)]
 pub struct Project {
     kept: ProjectParts,

@@ -1,5 +1,6 @@
 //! The tokens of a source.
 ghost use Rattle.std.specs.Prelude.{◌≡◌, ◌≤◌, length};
+ghost use Rattle.ci_base.specs.declared.bounds.TheConstants.{MOST_TOKENS};
 ghost use Rattle.ci_tree.specs.Tokens.{AreKept};
 
 use ci_base::Bytes;
@@ -111,19 +112,20 @@ pub struct TokenList {
 impl Model for TokenList {
     ghost use Rattle.std.specs.Prelude.{List, ◌≤◌, length};
     ghost use Rattle.ci_tree.specs.declared.token.Token.{Token};
+    ghost use Rattle.ci_base.specs.declared.bounds.TheConstants.{MOST_TOKENS};
     ghost use Rattle.ci_tree.specs.Tokens.{AreKept};
 
     ghost Value = { List Token };
 
     ghost view = { λ list. list.kept.items };
 
-    ghost invariant = { λ list. (length list.kept.items ≤ 262144) × AreKept 0 list.kept.items };
+    ghost invariant = { λ list. (length list.kept.items ≤ MOST_TOKENS) × AreKept 0 list.kept.items };
 }
 
 impl TokenList {
     /// The list of these tokens.
     pub fn of(tokens: Vec<Token>) -> TokenList
-        requires within { length tokens.items ≤ 262144 }
+        requires within { length tokens.items ≤ MOST_TOKENS }
         requires kept { AreKept 0 tokens.items }
         ensures { result ≡ tokens.items }
     {
@@ -133,7 +135,7 @@ impl TokenList {
     /// The tokens, in order.
     pub fn tokens(&self) -> &[Token]
         ensures value { result.now ≡ self.now }
-        ensures within { length result.now ≤ 262144 }
+        ensures within { length result.now ≤ MOST_TOKENS }
         ensures kept { AreKept 0 result.now }
     {
         self.kept.as_slice()

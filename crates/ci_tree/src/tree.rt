@@ -1,7 +1,7 @@
 //! Syntax trees: what a source says, with the tokens that say it. All indexes are indexes of tokens in the list
 //! that the tree was read from.
 
-use ci_base::Bytes;
+use ci_base::{Bytes, Relation};
 use sqlite_items::{Boxed, Items};
 
 /// The word of a type.
@@ -55,17 +55,6 @@ pub enum Operator {
     Times,
     Over,
     Mod,
-}
-
-/// The relation of a label with `IS`.
-#[derive(Clone, Copy, Debug, PartialEq, Eq)]
-pub enum Relation {
-    Equal,
-    Unequal,
-    Less,
-    Greater,
-    AtMost,
-    AtLeast,
 }
 
 /// An expression.

@@ -1,7 +1,7 @@
 -- Bound projects: what each name is replaced by.
-use Rattle.std.specs.Prelude.{ℕ, refl, [], ◌∷◌, true, false, codes, neg_ℤ, List, None, Some, pos}
+use Rattle.std.specs.Prelude.{ℕ, refl, [], ◌∷◌, ◌++◌, length, true, false, codes, neg_ℤ, List, None, Some, pos}
 use Rattle.ci_tree.specs.declared.tree.Operator.TheVariants as operator
-use Rattle.ci_tree.specs.declared.tree.Relation.TheVariants as relation
+use Rattle.ci_base.specs.declared.relation.Relation.TheVariants as relation
 use Rattle.ci_base.specs.declared.function.SharedName.TheVariants as requests
 use Rattle.ci_base.specs.declared.function.PrivateName.TheVariants as names
 use Rattle.ci_base.specs.declared.function.SharedName.{SharedName}
@@ -11,7 +11,8 @@ use Rattle.ci_base.specs.declared.value.Value.TheVariants as values
 use Rattle.ci_tree.specs.Bound as to
 use Prim.Native.String.{String}
 use Rattle.ci_base.specs.declared.value.Kind.TheVariants.{Int, Str}
-use Rattle.ci_tree.specs.Bound.{Expr, Exprs, Call, Stmt, Block, Function, Cell, Array, Global, Project}
+use Rattle.ci_tree.specs.Bound.{Callee, Expr, Exprs, Call, Stmt, Block, Function, Cell, Array, Global, Project}
+use Rattle.ci_tree.specs.LeftOut.{call_given}
 use Rattle.ci_names.specs.Binding.{binds}
 use Rattle.ci_names.proofs.Examples.Trees.{int, string, num, txt, var, elem, call, minus, chain, op, form, plain, valued, declare, assign, set_element, do_call, if_then, if_else, while, for, one, range, compared, case, select, select_else, return, return_value, first_number, first_negative, first_text, param, param_first, function, public_function, private_function, variable, variable_first, variable_array, global, global_array}
 
@@ -35,11 +36,15 @@ number n = to.number (pos n)
 abbrev text : String → Expr
 text t = to.literal (codes t)
 
+-- a call with these arguments, and these values for those that are left out
+abbrev call_with : Callee → List Expr → List Expr → Call
+call_with callee given behind = to.call callee (length given) (args (given ++ behind))
+
 abbrev shared : SharedName → List Expr → Call
-shared name es = to.call (to.shared name) (args es)
+shared name es = call_with (to.shared name) es []
 
 abbrev private : PrivateName → List Expr → Call
-private name es = to.call (to.private name) (args es)
+private name es = call_with (to.private name) es []
 
 -- a PUBLIC function of the first file, without a type and parameters: the kinds of its locals, and its statements
 abbrev plain_function : String → List Kind → List Stmt → Function
@@ -63,11 +68,13 @@ text_cell t = record { kind = Str; first = values.Str (codes t) }
 -- no file at all
 no_file_bound : binds []
     (of_functions [])
+unfolding call_given
 no_file_bound = (refl, refl)
 
 -- FUNCTION Main() TraceMsg("hi"); END
 one_trace : binds ((function 1 "Main" (do_call 4 "TraceMsg" (txt 6 "hi" ∷ []) ∷ []) ∷ []) ∷ [])
     (of_functions (plain_function "Main" [] (to.call_of 4 (shared requests.Trace (text "hi" ∷ [])) ∷ []) ∷ []))
+unfolding call_given
 one_trace = (refl, refl)
 
 -- INT a = 5; GLOBAL STRING b[3]; GLOBAL INT c; STRING d = "x"; GLOBAL INT e[2];
@@ -75,6 +82,7 @@ cells_and_arrays : binds ((variable_first 1 "a" (int 0) (first_number 3 5) ∷ g
     (of_variables (int_cell 5 ∷ text_cell "" ∷ text_cell "" ∷ text_cell "" ∷ int_cell 0 ∷ text_cell "x" ∷ int_cell 0 ∷ int_cell 0 ∷ [])
     (record { first = 1; kind = Str; length = 3 } ∷ record { first = 6; kind = Int; length = 2 } ∷ [])
     (record { name = codes "c"; cell = 4 } ∷ []))
+unfolding call_given
 cells_and_arrays = (refl, refl)
 
 -- a.ci: GLOBAL INT a; FUNCTION F() END
@@ -84,12 +92,13 @@ numbers_go_on_over_files : binds ((global 2 "a" (int 1) ∷ function 5 "F" [] �
       functions =
           plain_function "F" [] []
           ∷ record { file = 1; name = codes "G"; public = false; gives = None; params = []; others = []; body = body (to.assign 8 (to.cell 1) (cell 0) ∷ []) }
-          ∷ record { file = 1; name = codes "Main"; public = true; gives = None; params = []; others = []; body = body (to.call_of 17 (to.call (to.function 0) to.no_expr) ∷ to.call_of 21 (to.call (to.function 1) to.no_expr) ∷ []) }
+          ∷ record { file = 1; name = codes "Main"; public = true; gives = None; params = []; others = []; body = body (to.call_of 17 (call_with (to.function 0) [] []) ∷ to.call_of 21 (call_with (to.function 1) [] []) ∷ []) }
           ∷ [];
       cells = int_cell 0 ∷ int_cell 0 ∷ [];
       arrays = [];
       globals = record { name = codes "a"; cell = 0 } ∷ [];
     })
+unfolding call_given
 numbers_go_on_over_files = (refl, refl)
 
 -- STRING FUNCTION F(INT p, STRING q = "d") INT x = p, y; STRING z = q; y = x; RETURN z; END
@@ -103,6 +112,7 @@ locals_behind_parameters : binds ((public_function 2 "F" (Some (string 0)) (para
       others = Int ∷ Int ∷ Str ∷ [];
       body = body (to.assign 13 (to.local 2) (local 0) ∷ to.assign 20 (to.local 4) (local 1) ∷ to.assign 24 (to.local 3) (local 2) ∷ to.return 28 (local 4) ∷ []);
     } ∷ []))
+unfolding call_given
 locals_behind_parameters = (refl, refl)
 
 -- INT x; FUNCTION Main() x = 1; INT x = x; x = 2; END
@@ -113,6 +123,7 @@ a_local_shadows_from_its_end_on : binds ((variable 1 "x" (int 0) ∷ function 4 
       arrays = [];
       globals = [];
     })
+unfolding call_given
 a_local_shadows_from_its_end_on = (refl, refl)
 
 -- FUNCTION F(INT a, INT b = -2, STRING c = "z") F(1); F(1, 3); TaskHnd(); TaskHnd("F"); END
@@ -125,12 +136,13 @@ defaults_are_arguments : binds ((public_function 1 "F" None (param 4 "a" (int 3)
       params = record { kind = Int; first = None } ∷ record { kind = Int; first = Some (values.Int (neg_ℤ (pos 2))) } ∷ record { kind = Str; first = Some (values.Str (codes "z")) } ∷ [];
       others = [];
       body = body (
-          to.call_of 17 (to.call (to.function 0) (args (number 1 ∷ to.number (neg_ℤ (pos 2)) ∷ text "z" ∷ [])))
-          ∷ to.call_of 22 (to.call (to.function 0) (args (number 1 ∷ number 3 ∷ text "z" ∷ [])))
-          ∷ to.call_of 29 (shared requests.TaskHnd (text "" ∷ []))
+          to.call_of 17 (call_with (to.function 0) (number 1 ∷ []) (to.number (neg_ℤ (pos 2)) ∷ text "z" ∷ []))
+          ∷ to.call_of 22 (call_with (to.function 0) (number 1 ∷ number 3 ∷ []) (text "z" ∷ []))
+          ∷ to.call_of 29 (call_with (to.shared requests.TaskHnd) [] (text "" ∷ []))
           ∷ to.call_of 33 (shared requests.TaskHnd (text "F" ∷ []))
           ∷ []);
     } ∷ []))
+unfolding call_given
 defaults_are_arguments = (refl, refl)
 
 -- INT n; FUNCTION Main() STRING s; IF QueRead(1, n, s, 0) = 0 THEN QueRead(2, n, s, n); END END
@@ -144,6 +156,7 @@ queue_reads : binds ((variable 1 "n" (int 0) ∷ function 4 "Main" (declare 7 (s
       arrays = [];
       globals = [];
     })
+unfolding call_given
 queue_reads = (refl, refl)
 
 -- STRING b[2]; INT i, a[2]; FUNCTION Main() a[0] = -a[1] * 2; TraceMsg(a[i]:### + "x"); END
@@ -157,6 +170,7 @@ elements_and_chains : binds ((variable_array 1 "b" (string 0) 3 (pos 2) ∷ vari
       arrays = record { first = 0; kind = Str; length = 2 } ∷ record { first = 3; kind = Int; length = 2 } ∷ [];
       globals = [];
     })
+unfolding call_given
 elements_and_chains = (refl, refl)
 
 -- INT i; INT FUNCTION F() FOR i = 1 TO 2 DO IF i THEN ELSE RETURN 3; END END WHILE Abs(i) DO END SELECT CASE i CASE 1, 2 TO 3, IS > 4 RETURN 5; CASE ELSE i = 6; END SELECT SELECT CASE 1 END SELECT RETURN 7; END FUNCTION P() RETURN; END
@@ -186,6 +200,7 @@ bodies : binds ((variable 1 "i" (int 0) ∷ public_function 5 "F" (Some (int 3))
       arrays = [];
       globals = [];
     })
+unfolding call_given
 bodies = (refl, refl)
 
 -- FUNCTION Main() IF 0 THEN INT a = 1; ELSE STRING b = "t"; END SELECT CASE a CASE 1 INT c = 2; CASE c END SELECT INT d = c; END
@@ -195,6 +210,7 @@ locals_of_bodies : binds ((function 1 "Main" (if_else 4 (num 5 0) (declare 7 (in
     ∷ to.select 19 (local 0) (to.clause (to.one (number 1) ∷ []) (body (to.assign 25 (to.local 2) (number 2) ∷ [])) (to.clause (to.one (local 2) ∷ []) to.done to.no_clause)) to.done
     ∷ to.assign 34 (to.local 3) (local 2)
     ∷ []) ∷ []))
+unfolding call_given
 locals_of_bodies = (refl, refl)
 
 -- a.ci: GLOBAL INT a; FUNCTION F() END
@@ -205,11 +221,12 @@ first_and_nearest_declarations : binds ((global 2 "a" (int 1) ∷ function 5 "F"
       functions =
           plain_function "F" [] []
           ∷ record { file = 1; name = codes "F"; public = false; gives = None; params = []; others = []; body = to.done }
-          ∷ record { file = 1; name = codes "Main"; public = true; gives = None; params = []; others = []; body = body (to.call_of 13 (to.call (to.function 1) to.no_expr) ∷ to.assign 17 (to.cell 1) (number 1) ∷ []) }
-          ∷ record { file = 2; name = codes "G"; public = true; gives = None; params = []; others = []; body = body (to.call_of 4 (to.call (to.function 0) to.no_expr) ∷ to.assign 8 (to.cell 0) (number 2) ∷ []) }
+          ∷ record { file = 1; name = codes "Main"; public = true; gives = None; params = []; others = []; body = body (to.call_of 13 (call_with (to.function 1) [] []) ∷ to.assign 17 (to.cell 1) (number 1) ∷ []) }
+          ∷ record { file = 2; name = codes "G"; public = true; gives = None; params = []; others = []; body = body (to.call_of 4 (call_with (to.function 0) [] []) ∷ to.assign 8 (to.cell 0) (number 2) ∷ []) }
           ∷ [];
       cells = int_cell 0 ∷ int_cell 0 ∷ [];
       arrays = [];
       globals = record { name = codes "a"; cell = 0 } ∷ [];
     })
+unfolding call_given
 first_and_nearest_declarations = (refl, refl)

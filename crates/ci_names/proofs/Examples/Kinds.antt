@@ -1,7 +1,7 @@
 -- Where two kinds differ.
 use Rattle.std.specs.Prelude.{◌≡◌, refl, [], ◌∷◌, None, Some, pos}
 use Rattle.ci_tree.specs.declared.tree.Operator.TheVariants as operator
-use Rattle.ci_tree.specs.declared.tree.Relation.TheVariants as relation
+use Rattle.ci_base.specs.declared.relation.Relation.TheVariants as relation
 use Rattle.ci_names.specs.declared.fault.BindKind.TheVariants as kinds
 use Rattle.ci_names.specs.Faults.{faults}
 use Rattle.ci_names.proofs.Examples.Trees.{fault, int, string, num, txt, var, elem, call, minus, not, parens, chain, op, form, plain, valued, declare, assign, set_element, do_call, if_then, while, for, one, range, compared, case, select, return_value, first_number, first_negative, first_text, param, param_first, function, public_function, variable, variable_first, variable_array, global, global_first}

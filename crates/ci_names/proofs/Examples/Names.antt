@@ -1,7 +1,7 @@
 -- Which names are declared twice, are seen, and are of the other sort.
 use Rattle.std.specs.Prelude.{◌≡◌, refl, [], ◌∷◌, None, Some, pos}
 use Rattle.ci_tree.specs.declared.tree.Operator.TheVariants as operator
-use Rattle.ci_tree.specs.declared.tree.Relation.TheVariants as relation
+use Rattle.ci_base.specs.declared.relation.Relation.TheVariants as relation
 use Rattle.ci_names.specs.declared.fault.BindKind.TheVariants as kinds
 use Rattle.ci_names.specs.Faults.{faults}
 use Rattle.ci_names.proofs.Examples.Trees.{fault, int, string, num, var, elem, call, chain, op, plain, valued, declare, assign, set_element, do_call, if_else, while, for, one, range, compared, case, select_else, return, return_value, param, function, public_function, private_function, variable, variable_array, global}

@@ -6,7 +6,7 @@ use Rattle.ci_tree.specs.declared.tree.Const.{Const}
 use Rattle.ci_tree.specs.declared.tree.Const.TheVariants as const
 use Rattle.ci_tree.specs.declared.tree.Param.{Param}
 use Rattle.ci_tree.specs.declared.tree.Operator.{Operator}
-use Rattle.ci_tree.specs.declared.tree.Relation.{Relation}
+use Rattle.ci_base.specs.declared.relation.Relation.{Relation}
 use Rattle.ci_tree.specs.Grammar.{begun_at}
 use Rattle.ci_tree.specs.Tree as tree
 use Rattle.ci_tree.specs.Tree.{Expr, Link, Local, Label, Stmt, Clause, Item, exprs_from, links_from, block_from, clauses_from}
