@@ -11,7 +11,7 @@ use Rattle.ci_tree.specs.Grammar.{Tokens, operator_token, group_of, form_group, 
 use Rattle.ci_tree.specs.Grammar as said
 use Rattle.ci_tree.specs.Refused.{Refusal, begins, has_rule, rule, Joint, no_joint, by_operator, by_colon, joint, joint_rule}
 use Rattle.ci_tree.specs.Refused as ask
-use Rattle.ci_expressions.specs.Reading.{Reader, ◌>>=◌, rest_by, rest, level_on, more_arguments, arguments, suffix, unary, expression}
+use Rattle.ci_expressions.specs.Reading.{Found, Reader, ◌>>=◌, rest_by, rest, level_on, whole, more_arguments, arguments, suffix, unary, expression}
 use Rattle.ci_expressions.proofs.Exact.{begins_as}
 use Rattle.ci_expressions.proofs.Longer.{longer_level}
 use Rattle.ci_expressions.proofs.Levels.{rest_none}
@@ -127,6 +127,10 @@ more_ends : (m : said.MoreArgs) (k : Tokens) → Ends 8 (spell_more_args m (Sign
 more_ends said.no_more_args k = record { no_suffix = refl; no_rest = λ m h. refl }
 more_ends (said.comma_arg e rest) k = record { no_suffix = refl; no_rest = λ m h. refl }
 
+as_whole : (base : Reader to.Expr) (i : ℕ) (ts : Tokens) (r : Found to.Expr) → level_on base 8 i ts ≡ r → whole base i ts ≡ r
+unfolding whole
+as_whole base i ts r h = h
+
 mutual
   unary_again : (u : said.Unary) (d : ℕ) → IsUnary d u → (i : ℕ) (k : Tokens) → begins ask.suffix k ≡ false → unary d i (spell_unary u k) ≡ Ok (tree_unary i u, after_unary i u, k)
   unary_again (said.minus u) zero is i k e = absurd is
@@ -138,13 +142,13 @@ mutual
   unary_again (said.text t) zero is i k e = refl
   unary_again (said.text t) (suc d) is i k e = refl
   unary_again (said.parens c) zero is i k e = absurd is
-  unary_again (said.parens c) (suc d) is i k e = then_again _ (level_again c 8 d is (suc i) (Sign mark.RightParen ∷ k) (record { no_suffix = refl; no_rest = λ m h. refl })) refl
+  unary_again (said.parens c) (suc d) is i k e = then_again _ (as_whole _ _ _ _ (level_again c 8 d is (suc i) (Sign mark.RightParen ∷ k) (record { no_suffix = refl; no_rest = λ m h. refl }))) refl
   unary_again (said.name x) zero is i k e = suffix_none None i x (suc i) k e
   unary_again (said.name x) (suc d) is i k e = suffix_none (Some (unary d)) i x (suc i) k e
   unary_again (said.called x a) zero is i k e = absurd is
   unary_again (said.called x a) (suc d) is i k e = then_again _ (args_again a d is (suc (suc i)) k) refl
   unary_again (said.element x c) zero is i k e = absurd is
-  unary_again (said.element x c) (suc d) is i k e = then_again _ (level_again c 8 d is (suc (suc i)) (Sign mark.RightBracket ∷ k) (record { no_suffix = refl; no_rest = λ m h. refl })) refl
+  unary_again (said.element x c) (suc d) is i k e = then_again _ (as_whole _ _ _ _ (level_again c 8 d is (suc (suc i)) (Sign mark.RightBracket ∷ k) (record { no_suffix = refl; no_rest = λ m h. refl }))) refl
 
   level_again : (c : said.Level) (n d : ℕ) → IsLevel n d c → (i : ℕ) (k : Tokens) → Ends n k → level_on (unary d) n i (spell_level c k) ≡ Ok (tree_level i c, after_level i c, k)
   level_again (said.single u) zero d is i k ends = unary_again u d is i k ends.no_suffix
@@ -171,25 +175,25 @@ mutual
       (subst (λ (g : ℕ). joint g (Sign mark.Colon) ≡ by_colon) is.0 (colon_joins))
       ∙ then_again _ (rest_again more n d is.1 fuel (suc (suc i)) k shorter ends) refl
 
-  args_again : (a : said.Args) (d : ℕ) → IsArgs d a → (i : ℕ) (k : Tokens) → arguments (level_on (unary d) 8) i (spell_args a (Sign mark.RightParen ∷ k)) ≡ Ok (tree_args i a, after_args i a, Sign mark.RightParen ∷ k)
+  args_again : (a : said.Args) (d : ℕ) → IsArgs d a → (i : ℕ) (k : Tokens) → arguments (whole (unary d)) i (spell_args a (Sign mark.RightParen ∷ k)) ≡ Ok (tree_args i a, after_args i a, Sign mark.RightParen ∷ k)
   args_again said.no_args d is i k = refl
   args_again (said.args e rest) d is i k =
       let short : length (spell_more_args rest (Sign mark.RightParen ∷ k)) ≤ length (spell_more_args rest (Sign mark.RightParen ∷ k)) = omega arith in
       first_way _ (arguments_begin e (spell_more_args rest (Sign mark.RightParen ∷ k)))
-      (then_again _ (level_again e 8 d is.0 i (spell_more_args rest (Sign mark.RightParen ∷ k)) (more_ends rest k))
+      (then_again _ (as_whole _ _ _ _ (level_again e 8 d is.0 i (spell_more_args rest (Sign mark.RightParen ∷ k)) (more_ends rest k)))
       (then_again _ (more_again rest d is.1 (length (spell_more_args rest (Sign mark.RightParen ∷ k))) (after_level i e) k short) refl))
 
-  more_again : (m : said.MoreArgs) (d : ℕ) → IsMoreArgs d m → (fuel i : ℕ) (k : Tokens) → length (spell_more_args m (Sign mark.RightParen ∷ k)) ≤ fuel → more_arguments (level_on (unary d) 8) fuel i (spell_more_args m (Sign mark.RightParen ∷ k)) ≡ Ok (tree_more_args i m, after_more_args i m, Sign mark.RightParen ∷ k)
+  more_again : (m : said.MoreArgs) (d : ℕ) → IsMoreArgs d m → (fuel i : ℕ) (k : Tokens) → length (spell_more_args m (Sign mark.RightParen ∷ k)) ≤ fuel → more_arguments (whole (unary d)) fuel i (spell_more_args m (Sign mark.RightParen ∷ k)) ≡ Ok (tree_more_args i m, after_more_args i m, Sign mark.RightParen ∷ k)
   more_again said.no_more_args d is zero i k short = refl
   more_again said.no_more_args d is (suc fuel) i k short = refl
   more_again (said.comma_arg e rest) d is zero i k short = absurd (omega arith)
   more_again (said.comma_arg e rest) d is (suc fuel) i k short =
       let shorter : length (spell_more_args rest (Sign mark.RightParen ∷ k)) ≤ fuel = omega (arith, longer_level e (spell_more_args rest (Sign mark.RightParen ∷ k))) in
-      then_again _ (level_again e 8 d is.0 (suc i) (spell_more_args rest (Sign mark.RightParen ∷ k)) (more_ends rest k))
+      then_again _ (as_whole _ _ _ _ (level_again e 8 d is.0 (suc i) (spell_more_args rest (Sign mark.RightParen ∷ k)) (more_ends rest k)))
       (then_again _ (more_again rest d is.1 fuel (after_level (suc i) e) k shorter) refl)
 
 pub expression_again : (e : said.Level) (d : ℕ) → said.IsExpr d e → (i : ℕ) (k : Tokens) → Ends 8 k → expression d i (spell_level e k) ≡ Ok (tree_level i e, after_level i e, k)
-expression_again e d is i k ends = level_again e 8 d is i k ends
+expression_again e d is i k ends = as_whole _ _ _ _ (level_again e 8 d is i k ends)
 
 pub arguments_again : (a : said.Args) (d : ℕ) → IsArgs d a → (i : ℕ) (k : Tokens) → arguments (expression d) i (spell_args a (Sign mark.RightParen ∷ k)) ≡ Ok (tree_args i a, after_args i a, Sign mark.RightParen ∷ k)
 arguments_again a d is i k = args_again a d is i k

@@ -252,15 +252,25 @@ split s s' more d i (u ∷ us) K same e f =
     (ap (λ (r : Rule). by_rule r (can_be_empty s) d K (meet u K)) (same u)
     ∙ split_by (rule s' u) (can_be_empty s) (can_be_empty s') more d K (meet u K) (meet u (push d more K)) e f)
 
--- a symbol whose one rule begins with a comma
-pub comma_began : (s : Symbol) (more : List Symbol) (d i : ℕ) (ts : Tokens) (K : Stack) → ((u : TokenKind) → rule s u ≡ comma_rule more u) → begins (sign mark.Comma) ts ≡ true → refused_from i ts ((s, d) ∷ K) ≡ refused_from i ts ((sign mark.Comma, d) ∷ push d more K)
-comma_began s more d i [] K same e = absurd (cc)
-comma_began s more d i (Sign mark.Comma ∷ us) K same e = ap (λ (r : Rule). from_met i (λ b. refused_from (suc i) us b) (by_rule r (can_be_empty s) d K (meet (Sign mark.Comma) K))) (same (Sign mark.Comma))
-comma_began s more d i (u ∷ us) K same e = absurd (cc)
+-- the token that a rule of one token takes
+taken : (b : Bool) → has_rule (taken_if b) ≡ true → b ≡ true
+taken true e = refl
+taken false e = absurd (cc)
+
+taken_sign : (t : of_sign.Sign) (u : TokenKind) → has_rule (rule (sign t) u) ≡ true → u ≡ Sign t
+taken_sign t u e = only_sign t u (taken (is_sign t u) e)
 
 comma_has : (more : List Symbol) (u : TokenKind) → has_rule (comma_rule more u) ≡ has_rule (rule (sign mark.Comma) u)
 comma_has more (Sign mark.Comma) = refl
 comma_has more u = refl
+
+-- a symbol whose one rule begins with a comma
+pub comma_began : (s : Symbol) (more : List Symbol) (d i : ℕ) (ts : Tokens) (K : Stack) → ((u : TokenKind) → rule s u ≡ comma_rule more u) → begins (sign mark.Comma) ts ≡ true → refused_from i ts ((s, d) ∷ K) ≡ refused_from i ts ((sign mark.Comma, d) ∷ push d more K)
+comma_began s more d i [] K same e = absurd (cc)
+comma_began s more d i (u ∷ us) K same e =
+    let is : u ≡ Sign mark.Comma = taken_sign mark.Comma u e in
+    subst (λ (v : TokenKind). refused_from i (v ∷ us) ((s, d) ∷ K) ≡ refused_from i (v ∷ us) ((sign mark.Comma, d) ∷ push d more K)) (sym is)
+    (ap (λ (r : Rule). from_met i (λ b. refused_from (suc i) us b) (by_rule r (can_be_empty s) d K (meet (Sign mark.Comma) K))) (same (Sign mark.Comma)))
 
 pub comma_begins : (s : Symbol) (more : List Symbol) (ts : Tokens) → ((u : TokenKind) → rule s u ≡ comma_rule more u) → begins s ts ≡ begins (sign mark.Comma) ts
 comma_begins s more [] same = refl
@@ -273,11 +283,17 @@ split_one s s' more d i u us K same e f =
     (ap (λ (r : Rule). by_rule r (can_be_empty s) d K (meet u K)) same
     ∙ split_by (rule s' u) (can_be_empty s) (can_be_empty s') more d K (meet u K) (meet u (push d more K)) e f)
 
+equal_has : (more : List Symbol) (u : TokenKind) → has_rule (equal_rule more u) ≡ has_rule (rule (sign mark.Equal) u)
+equal_has more (Sign mark.Equal) = refl
+equal_has more u = refl
+
 -- a symbol whose one rule begins with `=`
 pub equal_began : (s : Symbol) (more : List Symbol) (d i : ℕ) (ts : Tokens) (K : Stack) → ((u : TokenKind) → rule s u ≡ equal_rule more u) → begins s ts ≡ true → refused_from i ts ((s, d) ∷ K) ≡ refused_from i ts ((sign mark.Equal, d) ∷ push d more K)
 equal_began s more d i [] K same e = absurd (cc)
-equal_began s more d i (Sign mark.Equal ∷ us) K same e = ap (λ (r : Rule). from_met i (λ b. refused_from (suc i) us b) (by_rule r (can_be_empty s) d K (meet (Sign mark.Equal) K))) (same (Sign mark.Equal))
-equal_began s more d i (u ∷ us) K same e = let h = ap has_rule (same u) in absurd (cc)
+equal_began s more d i (u ∷ us) K same e =
+    let is : u ≡ Sign mark.Equal = taken_sign mark.Equal u (sym (equal_has more u) ∙ sym (ap has_rule (same u)) ∙ e) in
+    subst (λ (v : TokenKind). refused_from i (v ∷ us) ((s, d) ∷ K) ≡ refused_from i (v ∷ us) ((sign mark.Equal, d) ∷ push d more K)) (sym is)
+    (ap (λ (r : Rule). from_met i (λ b. refused_from (suc i) us b) (by_rule r (can_be_empty s) d K (meet (Sign mark.Equal) K))) (same (Sign mark.Equal)))
 
 -- what one reader reads stands for what another says, behind what was read before
 pub turn : {V : Type 0} (q p : Phrase V) {i0 i : ℕ} (G : Tokens → Tokens) {ts : Tokens} {r : Found V} (m : q.Said → p.Said)

@@ -10,14 +10,14 @@ use Rattle.ci_tree.specs.declared.tree.TypeName.{TypeName}
 use Rattle.ci_tree.specs.declared.tree.TypeName.TheVariants as type_name
 use Rattle.ci_tree.specs.declared.tree.Operator.{Operator}
 use Rattle.ci_tree.specs.declared.tree.Operator.TheVariants as operator
-use Rattle.ci_tree.specs.declared.tree.Relation.{Relation}
-use Rattle.ci_tree.specs.declared.tree.Relation.TheVariants as relations
+use Rattle.ci_base.specs.declared.relation.Relation.{Relation}
+use Rattle.ci_base.specs.declared.relation.Relation.TheVariants as relations
 use Rattle.ci_tree.specs.Tree as to
 use Rattle.ci_tree.specs.Grammar.{Tokens, type_token, operator_token, relation_token, group_of, form_group, IsLevel, IsRest, IsUnary, IsArgs, IsMoreArgs, spell_level, spell_rest, spell_unary, spell_args, spell_more_args, after_level, after_rest, after_unary, after_args, after_more_args, tree_level, tree_rest, tree_unary, tree_args, tree_more_args}
 use Rattle.ci_tree.specs.Grammar as said
 use Rattle.ci_tree.specs.Refused.{Refusal, unexpected, unexpected_end, too_deep, Symbol, Stack, Rule, rule, refused_from, from_met, by_rule, meet, push, is_keyword, is_sign, begins, Joint, no_joint, by_operator, by_colon, joint, joint_rule, operator_joint, type_of_token, relation_of_token, followed_by, level_rule, typed_or, relation_rule}
 use Rattle.ci_tree.specs.Refused as ask
-use Rattle.ci_expressions.specs.Reading.{Found, Reader, ◌>>=◌, name_at, number_at, hashes_at, type_at, type_by, relation_at, relation_by, rest_by, rest, level_on, more_arguments, arguments, deeper, suffix, unary_on, unary, expression}
+use Rattle.ci_expressions.specs.Reading.{Found, Reader, ◌>>=◌, name_at, number_at, hashes_at, type_at, type_by, relation_at, relation_by, rest_by, rest, level_on, whole, more_arguments, arguments, deeper, suffix, unary_on, unary, expression}
 use Rattle.ci_expressions.proofs.Exact.{Phrase, ReadAs, Exact, Comes, follow, finish, follow_sign, chosen, empty, began, begins_as, split, comma_began, comma_begins}
 use Rattle.ci_expressions.proofs.Longer.{longer_level}
 
@@ -297,6 +297,10 @@ deeper_exact P i0 ts0 i zero (Some r) inside at deep then = absurd at
 deeper_exact P i0 ts0 i (suc d) None inside at deep then = absurd at
 deeper_exact P i0 ts0 i (suc d) (Some r) inside at deep then = then d r at
 
+whole_exact : (d : ℕ) (base : Reader to.Expr) → AllExact (unary_phrase d) base → AllExact (level_phrase 8 d) (whole base)
+unfolding whole
+whole_exact d base each i ts = level_exact d base each 8 i ts
+
 -- what stands behind a name
 data SuffixText : Type 0 where
   plain : SuffixText
@@ -328,11 +332,11 @@ suffix_phrase at x d = record { Said = SuffixText; Is = λ s. IsUnary d (suffix_
 
 suffix_exact : (at : ℕ) (x : List ℕ) (d : ℕ) (base : Option (Reader to.Expr)) → BaseAt d base → AllExact (suffix_phrase at x d) (suffix base at x)
 suffix_exact at x d base is i (Sign mark.LeftParen ∷ ts) = deeper_exact (suffix_phrase at x) i (Sign mark.LeftParen ∷ ts) i d base _ is (λ K. refl)
-    (λ e r each. follow (args_phrase e) (λ us. Sign mark.LeftParen ∷ us) _ (args_exact e (level_on r 8) (level_exact e r each 8) (suc i) ts) (record { goes = λ K. refl })
+    (λ e r each. follow (args_phrase e) (λ us. Sign mark.LeftParen ∷ us) _ (args_exact e (whole r) (whole_exact e r each) (suc i) ts) (record { goes = λ K. refl })
     (λ a rest a_is spelled comes. follow_sign (λ us. Sign mark.LeftParen ∷ spell_args a us) mark.RightParen _ comes
     (λ rest at comes. finish (suffix_phrase _ x (suc e)) (with_args a) a_is refl comes)))
 suffix_exact at x d base is i (Sign mark.LeftBracket ∷ ts) = deeper_exact (suffix_phrase at x) i (Sign mark.LeftBracket ∷ ts) i d base _ is (λ K. refl)
-    (λ e r each. follow (level_phrase 8 e) (λ us. Sign mark.LeftBracket ∷ us) _ (level_exact e r each 8 (suc i) ts) (record { goes = λ K. refl })
+    (λ e r each. follow (level_phrase 8 e) (λ us. Sign mark.LeftBracket ∷ us) _ (whole_exact e r each (suc i) ts) (record { goes = λ K. refl })
     (λ c rest c_is spelled comes. follow_sign (λ us. Sign mark.LeftBracket ∷ spell_level c us) mark.RightBracket _ comes
     (λ rest at comes. finish (suffix_phrase _ x (suc e)) (with_index c) c_is refl comes)))
 suffix_exact at x d base is i ts = empty (suffix_phrase at x d) i ts plain ask.suffix d tt refl refl (λ K. refl) refl refl
@@ -360,7 +364,7 @@ unary_on_exact d base is i (Keyword words.Not ∷ ts) = deeper_exact unary_phras
 unary_on_exact d base is i (Number v ∷ ts) = finish (unary_phrase d) (said.number v) tt refl (record { goes = λ K. refl })
 unary_on_exact d base is i (Text t ∷ ts) = finish (unary_phrase d) (said.text t) tt refl (record { goes = λ K. refl })
 unary_on_exact d base is i (Sign mark.LeftParen ∷ ts) = deeper_exact unary_phrase i (Sign mark.LeftParen ∷ ts) i d base _ is (λ K. refl)
-    (λ e r each. follow (level_phrase 8 e) (λ us. Sign mark.LeftParen ∷ us) _ (level_exact e r each 8 (suc i) ts) (record { goes = λ K. refl })
+    (λ e r each. follow (level_phrase 8 e) (λ us. Sign mark.LeftParen ∷ us) _ (whole_exact e r each (suc i) ts) (record { goes = λ K. refl })
     (λ c rest c_is spelled comes. follow_sign (λ us. Sign mark.LeftParen ∷ spell_level c us) mark.RightParen _ comes
     (λ rest at comes. finish (unary_phrase (suc e)) (said.parens c) c_is refl comes)))
 unary_on_exact d base is i (Name x ∷ ts) = named_exact x d i ts (suffix base i x (suc i) ts) (suffix_exact i x d base is (suc i) ts)
@@ -371,4 +375,4 @@ unary_exact zero i ts = unary_on_exact zero None tt i ts
 unary_exact (suc d) i ts = unary_on_exact (suc d) (Some (unary d)) (unary_exact d) i ts
 
 pub expression_exact : (d : ℕ) → AllExact (level_phrase 8 d) (expression d)
-expression_exact d i ts = level_exact d (unary d) (unary_exact d) 8 i ts
+expression_exact d i ts = whole_exact d (unary d) (unary_exact d) i ts

@@ -8,7 +8,7 @@ use Rattle.ci_tree.specs.declared.token.TokenKind.TheVariants.{Name, Keyword, Nu
 use Rattle.ci_tree.specs.declared.token.Keyword.TheVariants as words
 use Rattle.ci_tree.specs.declared.token.Sign.TheVariants as mark
 use Rattle.ci_tree.specs.declared.tree.TypeName.{TypeName}
-use Rattle.ci_tree.specs.declared.tree.Relation.{Relation}
+use Rattle.ci_base.specs.declared.relation.Relation.{Relation}
 use Rattle.ci_tree.specs.Tree as to
 use Rattle.ci_tree.specs.Tree.{Expr, Links, Exprs}
 use Rattle.ci_tree.specs.Grammar.{Tokens, chained, begun_at}
@@ -141,10 +141,14 @@ abbrev pub deeper : {V : Type 0} → ℕ → Option (Reader Expr) → (Reader Ex
 deeper i None inside = Err (too_deep i)
 deeper i (Some base) inside = inside base
 
+-- a member of the loosest level, over a reader of Unary
+unfoldable pub whole : Reader Expr → Reader Expr
+whole base = level_on base 8
+
 -- a call of x, whose name is at this index, behind the parenthesis
 abbrev pub called : Reader Expr → (at : ℕ) → List ℕ → Reader Expr
 called inside at x i ts = do
-  args ← arguments (level_on inside 8) i ts
+  args ← arguments (whole inside) i ts
   closed ← expect (is_sign mark.RightParen) args.1 args.2
   Ok (to.expr at at (to.call x args.0), closed.0, closed.1)
 
@@ -152,7 +156,7 @@ called inside at x i ts = do
 abbrev pub suffix : Option (Reader Expr) → (at : ℕ) → List ℕ → Reader Expr
 suffix base at x i (Sign mark.LeftParen ∷ ts) = deeper i base (λ inside. called inside at x (suc i) ts)
 suffix base at x i (Sign mark.LeftBracket ∷ ts) = deeper i base (λ inside. do
-  e ← level_on inside 8 (suc i) ts
+  e ← whole inside (suc i) ts
   closed ← expect (is_sign mark.RightBracket) e.1 e.2
   Ok (to.expr at at (to.element x e.0), closed.0, closed.1))
 suffix base at x i ts = Ok (to.expr at at (to.name x), i, ts)
@@ -169,7 +173,7 @@ unary_on base i (Keyword words.Not ∷ ts) = deeper i base (λ inside. do
 unary_on base i (Number v ∷ ts) = Ok (to.expr i i (to.number v), suc i, ts)
 unary_on base i (Text t ∷ ts) = Ok (to.expr i i (to.literal t), suc i, ts)
 unary_on base i (Sign mark.LeftParen ∷ ts) = deeper i base (λ inside. do
-  e ← level_on inside 8 (suc i) ts
+  e ← whole inside (suc i) ts
   closed ← expect (is_sign mark.RightParen) e.1 e.2
   Ok (begun_at i e.0, closed.0, closed.1))
 unary_on base i (Name x ∷ ts) = suffix base i x (suc i) ts
@@ -180,7 +184,7 @@ unary zero = unary_on None
 unary (suc free) = unary_on (Some (unary free))
 
 abbrev pub expression : ℕ → Reader Expr
-expression free = level_on (unary free) 8
+expression free = whole (unary free)
 
 -- the reader of Unary with one level fewer, where a level is free
 abbrev pub base_of : ℕ → Option (Reader Expr)

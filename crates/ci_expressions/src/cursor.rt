@@ -1,13 +1,14 @@
 //! A place between two tokens, and the readers of one token.
 ghost use Rattle.std.specs.Prelude.{◌≡◌, ℕ, zero, suc, ◌+◌, ◌≤◌, length, [], ◌∷◌, IfOk, MatchOption};
+ghost use Rattle.ci_base.specs.declared.bounds.TheConstants.{MOST_TOKENS};
 ghost use Rattle.ci_tree.specs.Refused as ask;
 ghost use Rattle.ci_tree.specs.Refused.{is_keyword, is_sign, begins, type_of_token, relation_of_token};
 ghost use Rattle.ci_expressions.specs.Gives.{kinds, Gives};
 ghost use Rattle.ci_expressions.specs.Reading as reading;
 
 use crate::fault::ParseFault;
-use ci_base::Bytes;
-use ci_tree::{Keyword, Relation, Sign, Token, TokenKind, TypeName};
+use ci_base::{Bytes, Relation};
+use ci_tree::{Keyword, Sign, Token, TokenKind, TypeName};
 use std::alloc::Global;
 
 /// The tokens that are left, and the index of the first of them.
@@ -15,7 +16,7 @@ use std::alloc::Global;
 pub struct Cursor<'a> {
     pub at: u32,
     pub left: &'a [Token],
-    ghost within: { at + length left.now ≤ 262144 },
+    ghost within: { at + length left.now ≤ MOST_TOKENS },
 }
 
 /// The next token, and the place behind it.

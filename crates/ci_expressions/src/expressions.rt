@@ -7,6 +7,7 @@ ghost use Rattle.ci_expressions.specs.Gives.{kinds, Gives};
 ghost use Rattle.ci_expressions.specs.Reading as reading;
 
 use crate::begins::{begins_expression, begins_sign, joining};
+use crate::behind::with_sign;
 use crate::cursor::{Cursor, below, expect_sign, hashes_at, next};
 use crate::fault::ParseFault;
 use crate::operators::{Joint, joint_in};
@@ -16,6 +17,8 @@ use sqlite_items::{Boxed, Items};
 use std::alloc::Global;
 
 /// An expression.
+#[cycle(expressions)]
+#[tactic(auto, unfolding(crate::specs::Reading::whole))]
 pub fn expression(alloc: Global, free: u32, here: Cursor) -> Result<(Expr, Cursor), ParseFault>
     ensures { Gives (λ x. (expr_of x.0, x.1.at, kinds x.1.left.now)) result (reading.expression free here.entry.at (kinds here.entry.left.now)) }
 {
@@ -53,8 +56,13 @@ fn chain_behind(
     requires { group ≤ 7 }
     ensures { Gives (λ x. (expr_of x.0, x.1.at, kinds x.1.left.now)) result (reading.chain_behind (reading.level_on (reading.unary free) group) group start (expr_of first) behind.entry.at (kinds behind.entry.left.now)) }
 {
-    let (links, after) = rest(alloc, free, group, behind)?;
-    Ok((chain(alloc, start, first, behind.at, links)?, after))
+    match rest(alloc, free, group, behind) {
+        Ok((links, after)) => Ok((chain(alloc, start, first, behind.at, links)?, after)),
+        Err(fault) => {
+            drop(first);
+            Err(fault)
+        }
+    }
 }
 
 /// A chain, or its first member alone where there is no other.
@@ -183,8 +191,8 @@ fn member(alloc: Global, free: u32, here: Cursor) -> Result<(Expr, Cursor), Pars
             let Some(inside) = below(free) else {
                 return Err(ParseFault::TooDeep { at: here.at });
             };
-            let (inner, after) = level(alloc, inside, 8, behind)?;
-            let closed = expect_sign(after, Sign::RightParen)?;
+            let (inner, after) = expression(alloc, inside, behind)?;
+            let (inner, closed) = with_sign(inner, after, Sign::RightParen)?;
             Ok((inner.begun_at(here.at), closed))
         }
         TokenKind::Name(name) => named(
@@ -218,8 +226,8 @@ fn named(
             let Some(inside) = below(free) else {
                 return Err(ParseFault::TooDeep { at: here.at });
             };
-            let (index, after) = level(alloc, inside, 8, behind)?;
-            let closed = expect_sign(after, Sign::RightBracket)?;
+            let (index, after) = expression(alloc, inside, behind)?;
+            let (index, closed) = with_sign(index, after, Sign::RightBracket)?;
             Ok((Expr::element(at, name, Boxed::new(alloc, index)?), closed))
         }
         _ => Ok((Expr::name(at, name), here)),
@@ -267,7 +275,7 @@ pub fn arguments(
     free: u32,
     from: Cursor,
 ) -> Result<(Items<Expr>, Cursor), ParseFault>
-    ensures { Gives (λ x. (exprs_of x.0, x.1.at, kinds x.1.left.now)) result (reading.arguments (reading.level_on (reading.unary free) 8) from.entry.at (kinds from.entry.left.now)) }
+    ensures { Gives (λ x. (exprs_of x.0, x.1.at, kinds x.1.left.now)) result (reading.arguments (reading.expression free) from.entry.at (kinds from.entry.left.now)) }
 {
     if !begins_expression(from) {
         return Ok((Items::new(alloc), from));
@@ -282,10 +290,10 @@ fn some_arguments(
     free: u32,
     from: Cursor,
 ) -> Result<(Items<Expr>, Cursor), ParseFault>
-    ensures { Gives (λ x. (map expr_of x.0, x.1.at, kinds x.1.left.now)) result (reading.members (reading.level_on (reading.unary free) 8) from.entry.at (kinds from.entry.left.now)) }
+    ensures { Gives (λ x. (map expr_of x.0, x.1.at, kinds x.1.left.now)) result (reading.members (reading.expression free) from.entry.at (kinds from.entry.left.now)) }
 {
     let mut args = list_with_room(alloc, 1)?;
-    let (first, behind) = level(alloc, free, 8, from)?;
+    let (first, behind) = expression(alloc, free, from)?;
     args.push(first)?;
     let mut here = behind;
     for _ in 0..behind.left.len() {
@@ -301,11 +309,11 @@ fn some_arguments(
 /// One more argument behind a comma, if there is a comma.
 #[cycle(expressions)]
 fn argument(alloc: Global, free: u32, here: Cursor) -> Result<Option<(Expr, Cursor)>, ParseFault>
-    ensures { Gives (λ x. option_map (λ y. (expr_of y.0, y.1.at, kinds y.1.left.now)) x) result (reading.comma_step (reading.level_on (reading.unary free) 8) here.entry.at (kinds here.entry.left.now)) }
+    ensures { Gives (λ x. option_map (λ y. (expr_of y.0, y.1.at, kinds y.1.left.now)) x) result (reading.comma_step (reading.expression free) here.entry.at (kinds here.entry.left.now)) }
 {
     if !begins_sign(here, Sign::Comma) {
         return Ok(None);
     }
     let behind = expect_sign(here, Sign::Comma)?;
-    Ok(Some(level(alloc, free, 8, behind)?))
+    Ok(Some(expression(alloc, free, behind)?))
 }

@@ -1,62 +1,56 @@
 -- The words that are no names.
-use Rattle.std.proofs.Common.{◌≡◌, ℕ, ◌<◌, Bool, true, false, cond, ◌&&◌, List, [], ◌∷◌, length, map, Option, Some, None, bytes_eq, sym, refl, ap, ◌∙◌, subst, arith, nat_eq, filter, inr, inl, leb, ltb, pos, negsuc, ℤ, FitsSigned, w32, ◌⊎◌, ⊎_elim}
+use Rattle.std.proofs.Common.{find, option_map, Bor, ◌++◌, ◌≡◌, ℕ, ◌<◌, Bool, true, false, cond, List, [], ◌∷◌, length, map, Option, Some, None, bytes_eq, sym, refl, ap, ◌∙◌, subst, arith, inl, leb, ltb, pos, negsuc, ℤ, FitsSigned, w32}
 use Rattle.std.specs.List.{list_all}
 use Rattle.std.proofs.lemmas.List.{length-map}
-use Rattle.std.proofs.lemmas.Bool.{and_parts, both_ways, true≢false, eq-eqb, false_from_ne_true, false_from_ne_true, leb-true, ltb-true}
+use Rattle.std.proofs.lemmas.Bool.{and_parts, true≢false, false_from_ne_true, leb-true, ltb-true}
 use Rattle.std.proofs.lemmas.Slice.Eq.{bytes_eq-Decides}
 use Rattle.ci_base.specs.Letters.{capital}
 use Rattle.ci_base.specs.Names.{is_name}
+use Rattle.ci_tree.specs.declared.token.Keyword.{Keyword}
 use Rattle.ci_tree.specs.declared.token.TokenKind.{TokenKind}
 use Rattle.ci_tree.specs.declared.token.TokenKind.TheVariants as kinds
 use Rattle.ci_tree.specs.Tokens.{Spells}
 use Rattle.ci_tree.specs.Words.{look_up, reserved, table}
-use Rattle.ci_lexer.specs.Lengths.{words_of}
+use Rattle.ci_lexer.specs.Keywords.{spelled, truth_values}
 
 abbrev Row : Type 0
 Row = List ℕ × TokenKind
 
--- a word is no row of another length
-other_length : (word : List ℕ) (row : Row) → nat_eq (length row.0) (length word) ≡ false → bytes_eq word row.0 ≡ false
-other_length word row differs =
-    false_from_ne_true (bytes_eq word row.0) (λ same. both_ways (nat_eq (length row.0) (length word)) differs (eq-eqb (length row.0) (length word) (ap length (sym ((bytes_eq-Decides word row.0).0 same)))))
+-- a keyword's row of the table
+abbrev keyword_row : Bor (List ℕ) × Keyword → Row
+keyword_row row = (row.0.now, kinds.Keyword row.1)
 
-abbrev of_length : ℕ → List Row → List Row
-of_length n rows = filter (λ row. nat_eq (length row.0) n) rows
+-- what a word makes by the keyword that it spells, or else by its truth value
+abbrev made_by : List ℕ → Option Keyword → Option TokenKind
+made_by word (Some k) = Some (kinds.Keyword k)
+made_by word None = look_up truth_values word
 
--- one row
-row_length : (row : Row) (rows : List Row) (word : List ℕ) (t : Bool) → nat_eq (length row.0) (length word) ≡ t → cond (bytes_eq word row.0) (Some row.1) (look_up (of_length (length word) rows) word) ≡ look_up (cond t (row ∷ of_length (length word) rows) (of_length (length word) rows)) word
-row_length row rows word true e = refl
-row_length row rows word false e = rw (other_length word row e) refl
+look_up_spelled : (word : List ℕ) (rows : List (Bor (List ℕ) × Keyword)) → look_up (map keyword_row rows ++ truth_values) word ≡ made_by word (spelled word rows)
+unfolding spelled
+look_up_spelled word [] = refl
+look_up_spelled word (row ∷ rows) = by (bytes_eq word row.0.now) (look_up_spelled word rows)
+  where
+    by : (b : Bool) → look_up (map keyword_row rows ++ truth_values) word ≡ made_by word (spelled word rows) → cond b (Some (kinds.Keyword row.1)) (look_up (map keyword_row rows ++ truth_values) word) ≡ made_by word (option_map (λ r. r.1) (cond b (Some row) (find (λ r. bytes_eq word r.0.now) rows)))
+    by true h = refl
+    by false h = h
 
--- the rows of other lengths don't matter
-look_up-length : (rows : List Row) (word : List ℕ) → look_up rows word ≡ look_up (of_length (length word) rows) word
-look_up-length [] word = refl
-look_up-length (row ∷ rows) word =
-    ap (λ o. cond (bytes_eq word row.0) (Some row.1) o) (look_up-length rows word) ∙ row_length row rows word (nat_eq (length row.0) (length word)) refl
+-- where the keywords and the truth values are the table, a word makes what it does by the table
+pub made : (word : List ℕ) (rows : List (Bor (List ℕ) × Keyword)) (o : Option Keyword) → o ≡ spelled word rows → map keyword_row rows ++ truth_values ≡ table → made_by word o ≡ look_up table word
+made word rows o e all = ap (made_by word) e ∙ sym (look_up_spelled word rows) ∙ ap (λ t. look_up t word) all
 
-pub words_at : (n : ℕ) (word : List ℕ) (o : Option TokenKind) → length word ≡ n → o ≡ look_up (words_of n) word → o ≡ look_up table word
-words_at n word o e h =
-    h ∙ ap (λ m. look_up (of_length m table) word) (sym e) ∙ sym (look_up-length table word)
-
--- no row of the table has less than two bytes or more than nine
-none_other : (rows : List Row) (word : List ℕ) → list_all (λ row. leb 2 (length row.0) && leb (length row.0) 9) rows ≡ true → (length word < 2) ⊎ (9 < length word) → look_up rows word ≡ None
-none_other [] word all outside = refl
-none_other (row ∷ rows) word all outside =
-    let parts = and_parts (leb 2 (length row.0) && leb (length row.0) 9) (list_all (λ r. leb 2 (length r.0) && leb (length r.0) 9) rows) all in
-    let bounds = and_parts (leb 2 (length row.0)) (leb (length row.0) 9) parts.0 in
-    let least = leb-true 2 (length row.0) bounds.0 in
-    let most = leb-true (length row.0) 9 bounds.1 in
+-- no row of the table has more than nine bytes
+none_longer : (rows : List Row) (word : List ℕ) → list_all (λ row. leb (length row.0) 9) rows ≡ true → 9 < length word → look_up rows word ≡ None
+none_longer [] word all long = refl
+none_longer (row ∷ rows) word all long =
+    let parts = and_parts (leb (length row.0) 9) (list_all (λ r. leb (length r.0) 9) rows) all in
+    let most = leb-true (length row.0) 9 parts.0 in
     let differs : bytes_eq word row.0 ≡ false =
-    false_from_ne_true (bytes_eq word row.0) (λ same. let e : length word ≡ length row.0 = ap length ((bytes_eq-Decides word row.0).0 same) in ⊎_elim (λ h. omega arith) (λ h. omega arith) outside) in
-    rw differs (none_other rows word parts.1 outside)
-
-pub none_outside : (word : List ℕ) → (length word < 2) ⊎ (9 < length word) → look_up table word ≡ None
-unfolding table
-none_outside word outside = none_other table word refl outside
+    false_from_ne_true (bytes_eq word row.0) (λ same. let e : length word ≡ length row.0 = ap length ((bytes_eq-Decides word row.0).0 same) in absurd (omega arith)) in
+    rw differs (none_longer rows word parts.1 long)
 
 pub none_long : (word : List ℕ) → 9 < length word → reserved word ≡ None
-unfolding reserved
-none_long word long = none_outside (map capital word) (inr (omega (arith, length-map word capital)))
+unfolding reserved table
+none_long word long = none_longer table (map capital word) refl (omega (arith, length-map word capital))
 
 -- what words make
 abbrev is_word_kind : TokenKind → Bool

@@ -1,5 +1,6 @@
 -- Sources that have no tokens.
 use Rattle.std.specs.Prelude.{◌≡◌, ℕ, ◌+◌, ◌<◌, ◌≤◌, Bool, true, List, [], ◌∷◌, ◌++◌, length, IsTrue, ℤ}
+use Rattle.ci_base.specs.declared.bounds.TheConstants.{MOST_NAME_BYTES, MOST_TEXT_BYTES, MOST_HASHES}
 use Rattle.ci_base.specs.Letters.{is_letter, is_line_end, is_run}
 use Rattle.ci_base.specs.Names.{is_name}
 use Rattle.ci_base.specs.Numbers.{is_number, number_value, number_limit}
@@ -24,15 +25,15 @@ pub data FaultAt (size : ℕ) : List ℕ → LexFault → Type 0 where
   -- a letter or `_` directly behind a number
   run_on : (s : List ℕ) (at : ℕ) (value : ℤ) (spelled : List ℕ) (b : ℕ) (rest : List ℕ) → s ≡ spelled ++ b ∷ rest → at + length (b ∷ rest) ≡ size → Spells (Number value) spelled → IsTrue (is_number spelled) → IsWhole spelled (b ∷ rest) → IsTrue (is_letter b) → FaultAt size s (StrayByte at)
   number_too_large : (s : List ℕ) (at : ℕ) (spelled rest : List ℕ) → s ≡ spelled ++ rest → at + length s ≡ size → IsTrue (is_number spelled) → IsWhole spelled rest → number_limit spelled < number_value spelled → FaultAt size s (NumberTooLarge at)
-  name_too_long : (s : List ℕ) (at : ℕ) (spelled rest : List ℕ) → s ≡ spelled ++ rest → at + length s ≡ size → IsTrue (is_name spelled) → IsWhole spelled rest → 64 < length spelled → FaultAt size s (NameTooLong at)
-  too_many_hashes : (s : List ℕ) (at : ℕ) (spelled rest : List ℕ) → s ≡ spelled ++ rest → at + length s ≡ size → IsTrue (is_run is_hash spelled) → IsWhole spelled rest → 255 < length spelled → FaultAt size s (TextTooLong at)
+  name_too_long : (s : List ℕ) (at : ℕ) (spelled rest : List ℕ) → s ≡ spelled ++ rest → at + length s ≡ size → IsTrue (is_name spelled) → IsWhole spelled rest → MOST_NAME_BYTES < length spelled → FaultAt size s (NameTooLong at)
+  too_many_hashes : (s : List ℕ) (at : ℕ) (spelled rest : List ℕ) → s ≡ spelled ++ rest → at + length s ≡ size → IsTrue (is_run is_hash spelled) → IsWhole spelled rest → MOST_HASHES < length spelled → FaultAt size s (TextTooLong at)
   open_comment : (s : List ℕ) (at : ℕ) → at + length s ≡ size → IsOpenComment s → FaultAt size s (OpenComment at)
   -- in a text, behind items for at most 255 bytes, a caret that begins no item
-  bad_escape : (s : List ℕ) (at : ℕ) (items value rest : List ℕ) → s ≡ 34 ∷ items ++ 94 ∷ rest → at + length s ≡ size → AreItems items value → length value ≤ 255 → (BeginsItem (94 ∷ rest) → ⊥) → FaultAt size s (BadEscape at)
+  bad_escape : (s : List ℕ) (at : ℕ) (items value rest : List ℕ) → s ≡ 34 ∷ items ++ 94 ∷ rest → at + length s ≡ size → AreItems items value → length value ≤ MOST_TEXT_BYTES → (BeginsItem (94 ∷ rest) → ⊥) → FaultAt size s (BadEscape at)
   -- items for 256 bytes
-  text_too_long : (s : List ℕ) (at : ℕ) (items value rest : List ℕ) → s ≡ 34 ∷ items ++ rest → at + length s ≡ size → AreItems items value → length value ≡ 256 → FaultAt size s (TextTooLong at)
+  text_too_long : (s : List ℕ) (at : ℕ) (items value rest : List ℕ) → s ≡ 34 ∷ items ++ rest → at + length s ≡ size → AreItems items value → length value ≡ MOST_TEXT_BYTES + 1 → FaultAt size s (TextTooLong at)
   -- behind items for at most 255 bytes, the end of the line or of the source
-  open_string : (s : List ℕ) (at : ℕ) (items value rest : List ℕ) → s ≡ 34 ∷ items ++ rest → at + length s ≡ size → AreItems items value → length value ≤ 255 → stops_text rest ≡ true → FaultAt size s (OpenString at)
+  open_string : (s : List ℕ) (at : ℕ) (items value rest : List ℕ) → s ≡ 34 ∷ items ++ rest → at + length s ≡ size → AreItems items value → length value ≤ MOST_TEXT_BYTES → stops_text rest ≡ true → FaultAt size s (OpenString at)
 
 -- the source begins with tokens and blanks, and then comes what is refused with this fault at its place
 abbrev pub lex_fault : List ℕ → LexFault → Type 0

@@ -1,5 +1,6 @@
 -- What stands in a text.
-use Rattle.std.specs.Prelude.{◌≡◌, ℕ, Bool, true, false, ◌&&◌, List, ◌∷◌, ◌++◌, length, ◌==◌}
+use Rattle.std.specs.Prelude.{◌≡◌, ℕ, ◌+◌, Bool, true, false, ◌&&◌, List, ◌∷◌, ◌++◌, length, ◌==◌}
+use Rattle.ci_base.specs.declared.bounds.TheConstants.{MOST_TEXT_BYTES}
 use Rattle.ci_base.specs.Letters.{is_hex_digit}
 use Rattle.ci_base.specs.Texts.{IsItem, AreItems, BeginsItem}
 use Rattle.ci_lexer.specs.declared.text.Item.{Item}
@@ -26,6 +27,6 @@ EndsText (ends.Closed rest) s value = (items : List ℕ) × AreItems items value
 EndsText ends.BadEscape s value =
     (items : List ℕ) × (rest : List ℕ) × AreItems items value × (s ≡ items ++ 94 ∷ rest) × (BeginsItem (94 ∷ rest) → ⊥)
 EndsText ends.TooLong s value =
-    (items : List ℕ) × (rest : List ℕ) × (bytes : List ℕ) × AreItems items bytes × (s ≡ items ++ rest) × (length bytes ≡ 256)
+    (items : List ℕ) × (rest : List ℕ) × (bytes : List ℕ) × AreItems items bytes × (s ≡ items ++ rest) × (length bytes ≡ MOST_TEXT_BYTES + 1)
 EndsText ends.LineEnd s value =
     (items : List ℕ) × (rest : List ℕ) × AreItems items value × (s ≡ items ++ rest) × (stops_text rest ≡ true)

@@ -3,8 +3,8 @@ pub mod Comments
 pub mod Faults
 pub mod Fronts
 pub mod Items
+pub mod Keywords
 pub mod Laws
 pub mod Leads
-pub mod Lengths
 pub mod Numbers
 pub mod Signs

@@ -1,5 +1,6 @@
 //! Comments, and the sign `/`.
 ghost use Rattle.std.specs.Prelude.{◌≡◌, ◌+◌, ◌≤◌, ◌≢◌, ℕ, List, ◌∷◌, ◌++◌, [], IfOk, IfErr, IfSome, IfNone, length, false};
+ghost use Rattle.ci_base.specs.declared.bounds.TheConstants.{MOST_SOURCE_BYTES};
 ghost use Rattle.ci_tree.specs.Comments.{has_close};
 ghost use Rattle.ci_lexer.specs.Faults.{FaultAt};
 ghost use Rattle.ci_lexer.specs.Comments.{IsClosed, closes};
@@ -27,7 +28,7 @@ pub fn scan_mark(rest: &[u8]) -> Step<'_>
 /// What begins with `/`: a comment or the sign.
 pub fn scan_slash(rest: &[u8], at: u32) -> Result<Step<'_>, LexFault>
     requires lead { Leads Lead.Slash rest.now }
-    requires short { at + length rest.now ≤ 262144 }
+    requires short { at + length rest.now ≤ MOST_SOURCE_BYTES }
     ensures ok { IfOk result (λ step. FrontAt step.front rest.now step.rest.now) }
     ensures err { IfErr result (λ fault. fault ≢ LexFault.Memory → FaultAt (at + length rest.now) rest.now fault) }
 {

@@ -1,5 +1,6 @@
 //! Lexing: one pass over the bytes of a source.
 ghost use Rattle.std.specs.Prelude.{◌≡◌, ◌++◌, ◌≤◌, ◌≢◌, IfOk, IfErr, OnOk, length};
+ghost use Rattle.ci_base.specs.declared.bounds.TheConstants.{MOST_SOURCE_BYTES};
 ghost use Rattle.ci_tree.specs.Tokens.{tokens, after_mark};
 ghost use Rattle.ci_lexer.specs.Faults.{lex_fault};
 ghost use Rattle.ci_lexer.specs.Fronts.{front_tokens};
@@ -13,7 +14,7 @@ use std::alloc::Global;
 /// source has exactly one list of tokens or exactly one fault (`one_reading`), so each answer but `Memory` comes exactly
 /// where its clause says. Takes memory for the tokens, their names and their texts.
 pub fn lex(alloc: Global, source: &[u8]) -> Result<TokenList, LexFault>
-    requires { length source.now ≤ 262144 }
+    requires { length source.now ≤ MOST_SOURCE_BYTES }
     ensures ok { IfOk result (λ list. tokens source.now list) }
     ensures err { IfErr result (λ fault. fault ≢ LexFault.Memory → lex_fault source.now fault) }
 {

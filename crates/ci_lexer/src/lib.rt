@@ -16,6 +16,3 @@ mod word;
 pub use fault::LexFault;
 pub use laws::one_reading;
 pub use lexing::lex;
-
-#[cfg(test)]
-mod tests;

@@ -5,6 +5,7 @@ ghost use Rattle.ci_lexer.specs.Fronts.{FrontAt};
 ghost use Rattle.ci_lexer.specs.Leads.{Leads};
 ghost use Rattle.std.specs.Char.{digit_value};
 ghost use Rattle.std.specs.Str.Parse.{digits_value};
+ghost use Rattle.ci_base.specs.declared.bounds.TheConstants.{MOST_SOURCE_BYTES};
 ghost use Rattle.ci_base.specs.Letters.{begins, is_letter};
 ghost use Rattle.ci_base.specs.Numbers.{is_number, number_limit, number_value};
 ghost use Rattle.ci_tree.specs.Shapes.{IsWhole};
@@ -19,7 +20,7 @@ use ci_tree::TokenKind;
 /// A number, behind which no letter and no `_` may stand.
 pub fn scan_number(rest: &[u8], at: u32) -> Result<Step<'_>, LexFault>
     requires lead { Leads Lead.Digit rest.now }
-    requires short { at + length rest.now ≤ 262144 }
+    requires short { at + length rest.now ≤ MOST_SOURCE_BYTES }
     ensures ok { IfOk result (λ step. FrontAt step.front rest.now step.rest.now) }
     ensures err { IfErr result (λ fault. fault ≢ LexFault.Memory → FaultAt (at + length rest.now) rest.now fault) }
 {
@@ -42,7 +43,7 @@ fn begins_hexadecimal(rest: &[u8]) -> bool
 
 fn scan_hexadecimal(rest: &[u8], at: u32) -> Result<Step<'_>, LexFault>
     requires start { hex_start rest.now ≡ true }
-    requires short { at + length rest.now ≤ 262144 }
+    requires short { at + length rest.now ≤ MOST_SOURCE_BYTES }
     ensures ok { IfOk result (λ step. FrontAt step.front rest.now step.rest.now) }
     ensures err { IfErr result (λ fault. fault ≢ LexFault.Memory → FaultAt (at + length rest.now) rest.now fault) }
 {
@@ -54,7 +55,7 @@ fn scan_hexadecimal(rest: &[u8], at: u32) -> Result<Step<'_>, LexFault>
 fn scan_decimal(rest: &[u8], at: u32) -> Result<Step<'_>, LexFault>
     requires lead { Leads Lead.Digit rest.now }
     requires no_start { hex_start rest.now ≡ false }
-    requires short { at + length rest.now ≤ 262144 }
+    requires short { at + length rest.now ≤ MOST_SOURCE_BYTES }
     ensures ok { IfOk result (λ step. FrontAt step.front rest.now step.rest.now) }
     ensures err { IfErr result (λ fault. fault ≢ LexFault.Memory → FaultAt (at + length rest.now) rest.now fault) }
 {
@@ -76,7 +77,7 @@ fn number<'s>(
     requires number { is_number spelled.now ≡ true }
     requires longest { IsWhole spelled.now behind.now }
     requires value { MatchOption value (number_limit spelled.now < number_value spelled.now) (λ n. (n ≡ number_value spelled.now) × (n ≤ number_limit spelled.now)) }
-    requires short { at + length rest.now ≤ 262144 }
+    requires short { at + length rest.now ≤ MOST_SOURCE_BYTES }
     ensures ok { IfOk result (λ step. FrontAt step.front rest.now step.rest.now) }
     ensures err { IfErr result (λ fault. fault ≢ LexFault.Memory → FaultAt (at + length rest.now) rest.now fault) }
 {

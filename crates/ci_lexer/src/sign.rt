@@ -1,5 +1,6 @@
 //! Signs and hashes.
 ghost use Rattle.std.specs.Prelude.{◌≡◌, ◌+◌, ◌<◌, ◌≤◌, ◌≢◌, IfOk, IfErr, IfSome, IfNone, List, ℕ, ◌∷◌, length, slice_index};
+ghost use Rattle.ci_base.specs.declared.bounds.TheConstants.{MOST_SOURCE_BYTES};
 ghost use Rattle.ci_lexer.specs.Faults.{FaultAt};
 ghost use Rattle.ci_lexer.specs.Fronts.{FrontAt};
 ghost use Rattle.ci_lexer.specs.Leads.{Leads};
@@ -11,15 +12,13 @@ use crate::fault::LexFault;
 use crate::lead::Lead;
 use crate::run::{Class, split_run};
 use crate::step::{Front, Step};
+use ci_base::bounds::MOST_HASHES;
 use ci_tree::{Sign, TokenKind};
-
-/// The most `#` that a token may have.
-const MOST_HASHES: usize = 255;
 
 /// One or more `#`.
 pub fn scan_hashes(rest: &[u8], at: u32) -> Result<Step<'_>, LexFault>
     requires lead { Leads Lead.Hash rest.now }
-    requires short { at + length rest.now ≤ 262144 }
+    requires short { at + length rest.now ≤ MOST_SOURCE_BYTES }
     ensures ok { IfOk result (λ step. FrontAt step.front rest.now step.rest.now) }
     ensures err { IfErr result (λ fault. fault ≢ LexFault.Memory → FaultAt (at + length rest.now) rest.now fault) }
 {
@@ -36,7 +35,7 @@ pub fn scan_hashes(rest: &[u8], at: u32) -> Result<Step<'_>, LexFault>
 /// A sign other than `/`, or a byte that begins nothing.
 pub fn scan_sign(rest: &[u8], at: u32) -> Result<Step<'_>, LexFault>
     requires lead { Leads Lead.Other rest.now }
-    requires short { at + length rest.now ≤ 262144 }
+    requires short { at + length rest.now ≤ MOST_SOURCE_BYTES }
     ensures ok { IfOk result (λ step. FrontAt step.front rest.now step.rest.now) }
     ensures err { IfErr result (λ fault. fault ≢ LexFault.Memory → FaultAt (at + length rest.now) rest.now fault) }
 {

@@ -1,6 +1,7 @@
 //! Texts.
 ghost use Rattle.std.specs.Prelude.{◌≡◌, ◌+◌, ◌*◌, ◌<◌, ◌≤◌, ◌≢◌, ◌==◌, [], true, false, IfOk, IfErr, length};
 ghost use Rattle.std.specs.Char.{digit_value};
+ghost use Rattle.ci_base.specs.declared.bounds.TheConstants.{MOST_SOURCE_BYTES};
 ghost use Rattle.ci_base.specs.Letters.{begins, is_hex_digit};
 ghost use Rattle.ci_base.specs.Texts.{escape, is_plain};
 ghost use Rattle.ci_lexer.specs.Items.{hex_escape};
@@ -15,6 +16,7 @@ use crate::number::digit_value;
 use crate::step::{Front, Step};
 use arrayvec::ArrayVec;
 use ci_base::Bytes;
+use ci_base::bounds::MOST_TEXT_BYTES;
 use ci_tree::TokenKind;
 use std::alloc::Global;
 
@@ -42,7 +44,7 @@ enum TextEnd<'s> {
 /// A text, from its opening quote on.
 pub fn scan_text<'s>(alloc: Global, rest: &'s [u8], at: u32) -> Result<Step<'s>, LexFault>
     requires lead { Leads Lead.Quote rest.now }
-    requires short { at + length rest.now ≤ 262144 }
+    requires short { at + length rest.now ≤ MOST_SOURCE_BYTES }
     ensures ok { IfOk result (λ step. FrontAt step.front rest.now step.rest.now) }
     ensures err { IfErr result (λ fault. fault ≢ LexFault.Memory → FaultAt (at + length rest.now) rest.now fault) }
 {
@@ -64,7 +66,7 @@ pub fn scan_text<'s>(alloc: Global, rest: &'s [u8], at: u32) -> Result<Step<'s>,
 }
 
 /// The items up to what ends the text; the bytes for which they stand are added to the value.
-fn scan_items<'s>(body: &'s [u8], value: &mut ArrayVec<u8, 255>) -> TextEnd<'s>
+fn scan_items<'s>(body: &'s [u8], value: &mut ArrayVec<u8, MOST_TEXT_BYTES>) -> TextEnd<'s>
     requires { value.old.items ≡ [] }
     ensures { EndsText result body.now value.new.items }
 {

@@ -1,13 +1,14 @@
 //! Names and keywords.
 ghost use Rattle.std.specs.Prelude.{◌≡◌, ◌+◌, ◌<◌, ◌≤◌, ◌≢◌, true, Some, IfOk, IfErr, length};
+ghost use Rattle.ci_base.specs.declared.bounds.TheConstants.{MOST_NAME_BYTES, MOST_SOURCE_BYTES};
 ghost use Rattle.ci_lexer.specs.Faults.{FaultAt};
 ghost use Rattle.ci_lexer.specs.Fronts.{FrontAt};
+ghost use Rattle.ci_lexer.specs.Keywords.{spelled, truth_values};
 ghost use Rattle.ci_lexer.specs.Leads.{Leads};
 ghost use Rattle.ci_base.specs.Letters.{capital};
 ghost use Rattle.ci_base.specs.Names.{is_name};
 ghost use Rattle.ci_tree.specs.Tokens.{Spells};
 ghost use Rattle.ci_tree.specs.Words.{look_up, reserved, table};
-ghost use Rattle.ci_lexer.specs.Lengths.{words_of};
 
 use crate::fault::LexFault;
 use crate::lead::Lead;
@@ -15,13 +16,48 @@ use crate::run::{Class, split_run};
 use crate::step::{Front, Step};
 use arrayvec::ArrayVec;
 use ci_base::Bytes;
+use ci_base::bounds::MOST_NAME_BYTES;
 use ci_tree::{Keyword, TokenKind};
 use std::alloc::Global;
+
+/// How the keywords are spelled in capitals.
+static KEYWORDS: [(&[u8], Keyword); 30] = [
+    (b"FUNCTION", Keyword::Function),
+    (b"END", Keyword::End),
+    (b"IF", Keyword::If),
+    (b"THEN", Keyword::Then),
+    (b"ELSE", Keyword::Else),
+    (b"WHILE", Keyword::While),
+    (b"DO", Keyword::Do),
+    (b"FOR", Keyword::For),
+    (b"TO", Keyword::To),
+    (b"SELECT", Keyword::Select),
+    (b"CASE", Keyword::Case),
+    (b"IS", Keyword::Is),
+    (b"RETURN", Keyword::Return),
+    (b"PRIVATE", Keyword::Private),
+    (b"PUBLIC", Keyword::Public),
+    (b"GLOBAL", Keyword::Global),
+    (b"MODULE", Keyword::Module),
+    (b"INT", Keyword::Int),
+    (b"STRING", Keyword::String),
+    (b"REAL", Keyword::Real),
+    (b"OBJECT", Keyword::Object),
+    (b"QUALITY", Keyword::Quality),
+    (b"TIMESTAMP", Keyword::Timestamp),
+    (b"AND", Keyword::And),
+    (b"OR", Keyword::Or),
+    (b"NOT", Keyword::Not),
+    (b"MOD", Keyword::Mod),
+    (b"BITAND", Keyword::BitAnd),
+    (b"BITOR", Keyword::BitOr),
+    (b"BITXOR", Keyword::BitXor),
+];
 
 /// A name or a keyword.
 pub fn scan_word<'s>(alloc: Global, rest: &'s [u8], at: u32) -> Result<Step<'s>, LexFault>
     requires lead { Leads Lead.Letter rest.now }
-    requires short { at + length rest.now ≤ 262144 }
+    requires short { at + length rest.now ≤ MOST_SOURCE_BYTES }
     ensures ok { IfOk result (λ step. FrontAt step.front rest.now step.rest.now) }
     ensures err { IfErr result (λ fault. fault ≢ LexFault.Memory → FaultAt (at + length rest.now) rest.now fault) }
 {
@@ -39,9 +75,9 @@ pub fn scan_word<'s>(alloc: Global, rest: &'s [u8], at: u32) -> Result<Step<'s>,
 fn word_token(alloc: Global, word: &[u8], at: u32) -> Result<TokenKind, LexFault>
     requires { is_name word.now ≡ true }
     ensures ok { IfOk result (λ what. Spells what word.now) }
-    ensures err { IfErr result (λ fault. fault ≢ LexFault.Memory → (fault ≡ LexFault.NameTooLong at) × (64 < length word.now)) }
+    ensures err { IfErr result (λ fault. fault ≢ LexFault.Memory → (fault ≡ LexFault.NameTooLong at) × (MOST_NAME_BYTES < length word.now)) }
 {
-    if word.len() > 64 {
+    if word.len() > MOST_NAME_BYTES {
         return Err(LexFault::NameTooLong { at });
     }
     match reserved(word) {
@@ -79,165 +115,33 @@ fn capital(b: u8) -> u8
 fn look_up(word: &[u8]) -> Option<TokenKind>
     ensures { result ≡ look_up table word.now }
 {
-    let count = word.len();
-    if count == 2 {
-        look_up_2(word)
-    } else if count == 3 {
-        look_up_3(word)
-    } else if count == 4 {
-        look_up_4(word)
-    } else if count == 5 {
-        look_up_5(word)
-    } else if count == 6 {
-        look_up_6(word)
-    } else if count == 7 {
-        look_up_7(word)
-    } else if count == 8 {
-        look_up_8(word)
-    } else if count == 9 {
-        look_up_9(word)
-    } else {
-        None
+    match find_keyword(&KEYWORDS, word) {
+        Some(keyword) => Some(TokenKind::Keyword(keyword)),
+        None => truth_value(word),
     }
 }
 
-#[tactic(auto, unfolding(ci_tree::specs::Words::table))]
-fn look_up_2(word: &[u8]) -> Option<TokenKind>
-    ensures { result ≡ look_up (words_of 2) word.now }
+/// The first of the keywords that the word spells.
+#[tactic(auto, unfolding(crate::specs::Keywords::spelled))]
+fn find_keyword(keywords: &[(&[u8], Keyword)], word: &[u8]) -> Option<Keyword>
+    ensures { result ≡ spelled word.now keywords.now }
 {
-    if word == b"IF".as_slice() {
-        keyword(Keyword::If)
-    } else if word == b"DO".as_slice() {
-        keyword(Keyword::Do)
-    } else if word == b"TO".as_slice() {
-        keyword(Keyword::To)
-    } else if word == b"IS".as_slice() {
-        keyword(Keyword::Is)
-    } else if word == b"OR".as_slice() {
-        keyword(Keyword::Or)
-    } else {
-        None
+    for (spelling, keyword) in keywords {
+        if word == *spelling {
+            return Some(*keyword);
+        }
     }
+    None
 }
 
-fn keyword(word: Keyword) -> Option<TokenKind>
-    ensures { result ≡ Some (TokenKind.Keyword word) }
+/// The number that `TRUE` or `FALSE` makes.
+fn truth_value(word: &[u8]) -> Option<TokenKind>
+    ensures { result ≡ look_up truth_values word.now }
 {
-    Some(TokenKind::Keyword(word))
-}
-
-#[tactic(auto, unfolding(ci_tree::specs::Words::table))]
-fn look_up_3(word: &[u8]) -> Option<TokenKind>
-    ensures { result ≡ look_up (words_of 3) word.now }
-{
-    if word == b"END".as_slice() {
-        keyword(Keyword::End)
-    } else if word == b"FOR".as_slice() {
-        keyword(Keyword::For)
-    } else if word == b"INT".as_slice() {
-        keyword(Keyword::Int)
-    } else if word == b"AND".as_slice() {
-        keyword(Keyword::And)
-    } else if word == b"NOT".as_slice() {
-        keyword(Keyword::Not)
-    } else if word == b"MOD".as_slice() {
-        keyword(Keyword::Mod)
-    } else {
-        None
-    }
-}
-
-#[tactic(auto, unfolding(ci_tree::specs::Words::table))]
-fn look_up_4(word: &[u8]) -> Option<TokenKind>
-    ensures { result ≡ look_up (words_of 4) word.now }
-{
-    if word == b"THEN".as_slice() {
-        keyword(Keyword::Then)
-    } else if word == b"ELSE".as_slice() {
-        keyword(Keyword::Else)
-    } else if word == b"CASE".as_slice() {
-        keyword(Keyword::Case)
-    } else if word == b"REAL".as_slice() {
-        keyword(Keyword::Real)
-    } else if word == b"TRUE".as_slice() {
+    if word == b"TRUE".as_slice() {
         Some(TokenKind::Number(1))
-    } else {
-        None
-    }
-}
-
-#[tactic(auto, unfolding(ci_tree::specs::Words::table))]
-fn look_up_5(word: &[u8]) -> Option<TokenKind>
-    ensures { result ≡ look_up (words_of 5) word.now }
-{
-    if word == b"WHILE".as_slice() {
-        keyword(Keyword::While)
-    } else if word == b"BITOR".as_slice() {
-        keyword(Keyword::BitOr)
     } else if word == b"FALSE".as_slice() {
         Some(TokenKind::Number(0))
-    } else {
-        None
-    }
-}
-
-#[tactic(auto, unfolding(ci_tree::specs::Words::table))]
-fn look_up_6(word: &[u8]) -> Option<TokenKind>
-    ensures { result ≡ look_up (words_of 6) word.now }
-{
-    if word == b"SELECT".as_slice() {
-        keyword(Keyword::Select)
-    } else if word == b"RETURN".as_slice() {
-        keyword(Keyword::Return)
-    } else if word == b"PUBLIC".as_slice() {
-        keyword(Keyword::Public)
-    } else if word == b"GLOBAL".as_slice() {
-        keyword(Keyword::Global)
-    } else if word == b"MODULE".as_slice() {
-        keyword(Keyword::Module)
-    } else if word == b"STRING".as_slice() {
-        keyword(Keyword::String)
-    } else if word == b"OBJECT".as_slice() {
-        keyword(Keyword::Object)
-    } else if word == b"BITAND".as_slice() {
-        keyword(Keyword::BitAnd)
-    } else if word == b"BITXOR".as_slice() {
-        keyword(Keyword::BitXor)
-    } else {
-        None
-    }
-}
-
-#[tactic(auto, unfolding(ci_tree::specs::Words::table))]
-fn look_up_7(word: &[u8]) -> Option<TokenKind>
-    ensures { result ≡ look_up (words_of 7) word.now }
-{
-    if word == b"PRIVATE".as_slice() {
-        keyword(Keyword::Private)
-    } else if word == b"QUALITY".as_slice() {
-        keyword(Keyword::Quality)
-    } else {
-        None
-    }
-}
-
-#[tactic(auto, unfolding(ci_tree::specs::Words::table))]
-fn look_up_8(word: &[u8]) -> Option<TokenKind>
-    ensures { result ≡ look_up (words_of 8) word.now }
-{
-    if word == b"FUNCTION".as_slice() {
-        keyword(Keyword::Function)
-    } else {
-        None
-    }
-}
-
-#[tactic(auto, unfolding(ci_tree::specs::Words::table))]
-fn look_up_9(word: &[u8]) -> Option<TokenKind>
-    ensures { result ≡ look_up (words_of 9) word.now }
-{
-    if word == b"TIMESTAMP".as_slice() {
-        keyword(Keyword::Timestamp)
     } else {
         None
     }

@@ -6,8 +6,8 @@ use Rattle.ci_tree.specs.declared.token.Keyword.TheVariants as words
 use Rattle.ci_tree.specs.declared.token.Sign.TheVariants as mark
 use Rattle.ci_tree.specs.declared.tree.TypeName.{TypeName}
 use Rattle.ci_tree.specs.declared.tree.TypeName.TheVariants as type_name
-use Rattle.ci_tree.specs.declared.tree.Relation.{Relation}
-use Rattle.ci_tree.specs.declared.tree.Relation.TheVariants as relations
+use Rattle.ci_base.specs.declared.relation.Relation.{Relation}
+use Rattle.ci_base.specs.declared.relation.Relation.TheVariants as relations
 use Rattle.ci_tree.specs.Tree as to
 use Rattle.ci_tree.specs.Grammar.{Tokens, type_token, relation_token, spell_level, after_level, tree_level, spell_others, AreAll, after_others, tree_others, IsLocal, spell_local, after_local, tree_local, IsLabel, spell_label, after_label, tree_label, IsStatement, spell_statement, after_statement, tree_statement, IsElse, spell_else, after_else, tree_else, IsCases, spell_cases, after_cases, tree_cases, IsBody, spell_body, after_body, tree_body}
 use Rattle.ci_tree.specs.Grammar as said

@@ -7,3 +7,4 @@ pub mod ItemLoop
 pub mod FromReading
 pub mod Nodes
 pub mod Bodies
+pub mod Constructs

@@ -377,6 +377,15 @@ call_alone expression at x i ts = do
   closed ← expect (is_sign mark.RightParen) args.1 args.2
   Ok (to.call_of at x args.0, closed.0, closed.1)
 
+-- an assignment to an element, behind the bracket
+abbrev pub element_assigned : Reader Expr → Reader Expr → (at : ℕ) → List ℕ → Reader Stmt
+element_assigned expression within at x i ts = do
+  index ← within i ts
+  closed ← expect (is_sign mark.RightBracket) index.1 index.2
+  equal ← expect (is_sign mark.Equal) closed.0 closed.1
+  e ← expression equal.0 equal.1
+  Ok (to.assign at x (Some index.0) closed.0 e.0, e.1, e.2)
+
 -- a clause with labels is next
 abbrev pub begins_clause : Tokens → Bool
 begins_clause [] = false

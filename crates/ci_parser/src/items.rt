@@ -1,32 +1,31 @@
 //! The items of a file.
 ghost use Rattle.std.specs.Prelude.{◌≡◌, ◌≤◌, length};
+ghost use Rattle.ci_base.specs.declared.bounds.TheConstants.{MOST_LEVELS, MOST_TOKENS};
 ghost use Rattle.ci_tree.specs.Seen.{item_of, items_of};
 ghost use Rattle.ci_expressions.specs.Gives.{kinds, Gives};
 ghost use Rattle.ci_parser.specs.Reading as reading;
 
 use crate::members::{parameters, variables};
-use crate::statements::body;
+use crate::statements::{body, ended};
+use ci_base::bounds::MOST_LEVELS;
 use ci_expressions::{
     Cursor, ParseFault, begins_name, begins_type, expect_keyword, expect_sign, name_at, next,
-    type_at, type_of,
+    type_at, type_of, with_sign,
 };
 use ci_tree::{Item, Keyword, Sign, Token, TokenKind, TypeAt, list_with_room};
 use sqlite_items::Items;
 use std::alloc::Global;
 
-/// The number of levels that may be open at one place.
-const NESTING: u32 = 32;
-
 /// The items of a file.
 pub(crate) fn items(alloc: Global, tokens: &[Token]) -> Result<Items<Item>, ParseFault>
-    requires { length tokens.now ≤ 262144 }
-    ensures { Gives items_of result (reading.items 32 (length (kinds tokens.now)) 0 (kinds tokens.now)) }
+    requires { length tokens.now ≤ MOST_TOKENS }
+    ensures { Gives items_of result (reading.items MOST_LEVELS (length (kinds tokens.now)) 0 (kinds tokens.now)) }
 {
     let start = Cursor {
         at: 0,
         left: tokens,
     };
-    items_from(alloc, NESTING, start)
+    items_from(alloc, MOST_LEVELS as u32, start)
 }
 
 /// The items from this place to the end of the tokens.
@@ -131,8 +130,8 @@ fn function(
     ensures { Gives (λ x. (items_of x.0, x.1.at, kinds x.1.left.now)) result (reading.one_item (reading.function free private gives here.entry.at (kinds here.entry.left.now))) }
 {
     let behind = expect_keyword(here, Keyword::Function)?;
-    let (item, after) = function_end(alloc, free, private, gives, behind)?;
     let mut items = list_with_room(alloc, 1)?;
+    let (item, after) = function_end(alloc, free, private, gives, behind)?;
     items.push(item)?;
     Ok((items, after))
 }
@@ -148,11 +147,11 @@ fn function_end(
     ensures { Gives (λ x. (item_of x.0, x.1.at, kinds x.1.left.now)) result (reading.function_end free private gives here.entry.at (kinds here.entry.left.now)) }
 {
     let (name, named) = name_at(alloc, here)?;
-    let opened = expect_sign(named, Sign::LeftParen)?;
+    let (name, opened) = with_sign(name, named, Sign::LeftParen)?;
     let (params, behind) = parameters(alloc, opened)?;
     let closed = expect_sign(behind, Sign::RightParen)?;
     let (body, after) = body(alloc, free, closed)?;
-    let ended = expect_keyword(after, Keyword::End)?;
+    let (body, end) = ended(body, after)?;
     Ok((
         Item::Function {
             at: here.at,
@@ -162,6 +161,6 @@ fn function_end(
             params,
             body,
         },
-        ended,
+        end,
     ))
 }

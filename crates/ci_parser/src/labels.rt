@@ -7,7 +7,7 @@ ghost use Rattle.ci_parser.specs.Reading as reading;
 use ci_base::Bytes;
 use ci_expressions::{
     Cursor, ParseFault, begins_keyword, begins_range_end, begins_sign, begins_value,
-    expect_keyword, expect_sign, expression, name_at, relation_at,
+    expect_keyword, expect_sign, expression, name_at, relation_at, with_keyword,
 };
 use ci_tree::{Expr, Keyword, Label, LocalAt, Sign};
 use std::alloc::Global;
@@ -100,9 +100,14 @@ fn label_end(
     if !begins_range_end(here) {
         return Ok((Label::One { value: low }, here));
     }
-    let behind = expect_keyword(here, Keyword::To)?;
-    let (high, after) = expression(alloc, free, behind)?;
-    Ok((Label::Range { low, high }, after))
+    let (low, behind) = with_keyword(low, here, Keyword::To)?;
+    match expression(alloc, free, behind) {
+        Ok((high, after)) => Ok((Label::Range { low, high }, after)),
+        Err(fault) => {
+            drop(low);
+            Err(fault)
+        }
+    }
 }
 
 /// One more label behind a comma, if there is a comma.

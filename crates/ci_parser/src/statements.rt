@@ -1,20 +1,23 @@
 //! Statements, by descent. `free` is the number of levels that may still be opened, and `inside` that number
-//! within a construct that has opened one.
-ghost use Rattle.std.specs.Prelude.{◌≡◌, suc, ◌++◌, length, map, option_map, option_to_list};
-ghost use Rattle.ci_tree.specs.Seen.{stmt_of, block_of, clause_of, clauses_of};
+//! within a construct that has opened one. Where a fault comes behind an expression, `drop` lets it go: what a scope lets
+//! go at its end is written out there, member by member, and is costly to prove.
+ghost use Rattle.std.specs.Prelude.{◌≡◌, suc, ◌++◌, length, map, option_map, option_to_list, IfOk};
+ghost use Rattle.ci_tree.specs.declared.token.Keyword.TheVariants.{End};
+ghost use Rattle.ci_tree.specs.Refused.{is_keyword};
+ghost use Rattle.ci_tree.specs.Seen.{expr_of, stmt_of, block_of, clause_of, clauses_of};
 ghost use Rattle.ci_tree.specs.Tree.{other_from};
 ghost use Rattle.ci_expressions.specs.Gives.{kinds, Gives};
 ghost use Rattle.ci_parser.specs.Reading as reading;
-ghost use Rattle.ci_parser.specs.Constructs.{construct_of, construct_at, behind_word, plain_simple, simple};
+ghost use Rattle.ci_parser.specs.Constructs.{construct_of, construct_at, before_word, counted, choice, branches, loop, count, behind_word, plain_simple, simple};
 
 use crate::members::{labels, locals};
 use ci_base::Bytes;
 use ci_expressions::{
     Cursor, ParseFault, arguments, begins_else, begins_expression, begins_keyword,
     begins_statement, below, expect_keyword, expect_sign, expression, is_keyword, name_at, next,
-    type_of,
+    type_of, with_keyword, with_sign,
 };
-use ci_tree::{Clause, Keyword, Sign, Stmt, TokenKind, TypeAt, TypeName, list_with_room};
+use ci_tree::{Clause, Expr, Keyword, Sign, Stmt, TokenKind, TypeAt, TypeName, list_with_room};
 use sqlite_items::Items;
 use std::alloc::Global;
 
@@ -66,7 +69,7 @@ fn returned(
     ensures { Gives (λ x. (option_map stmt_of x.0, x.1.at, kinds x.1.left.now)) result (reading.closed (reading.returned at (reading.expression free) here.entry.at (kinds here.entry.left.now))) }
 {
     let (stmt, after) = value(alloc, free, at, here)?;
-    let end = expect_sign(after, Sign::Semicolon)?;
+    let (stmt, end) = with_sign(stmt, after, Sign::Semicolon)?;
     Ok((Some(stmt), end))
 }
 
@@ -102,6 +105,32 @@ fn call(
     Ok((Stmt::call(at, name, args), closed))
 }
 
+/// An assignment to an element, behind its opening bracket, which is the token `opens`; its name is the token `at`.
+fn element(
+    alloc: Global,
+    free: u32,
+    opens: u32,
+    at: u32,
+    name: Bytes,
+    here: Cursor,
+) -> Result<(Stmt, Cursor), ParseFault>
+    ensures { Gives (λ x. (stmt_of x.0, x.1.at, kinds x.1.left.now)) result (reading.opened opens (reading.inside_of free) (λ inside. reading.element_assigned (reading.expression free) inside.expression at name here.entry.at (kinds here.entry.left.now))) }
+{
+    let Some(inside) = below(free) else {
+        return Err(ParseFault::TooDeep { at: opens });
+    };
+    let (index, after) = expression(alloc, inside, here)?;
+    let (index, closed) = with_sign(index, after, Sign::RightBracket)?;
+    let (index, equal) = with_sign(index, closed, Sign::Equal)?;
+    match expression(alloc, free, equal) {
+        Ok((value, end)) => Ok((Stmt::assign(at, name, Some(index), closed.at, value), end)),
+        Err(fault) => {
+            drop((name, index));
+            Err(fault)
+        }
+    }
+}
+
 /// A call or an assignment, behind its name, which is the token `at`.
 fn tail(
     alloc: Global,
@@ -117,16 +146,7 @@ fn tail(
     };
     match kind {
         TokenKind::Sign(Sign::LeftParen) => call_at(alloc, free, here.at, at, name, behind),
-        TokenKind::Sign(Sign::LeftBracket) => {
-            let Some(inside) = below(free) else {
-                return Err(ParseFault::TooDeep { at: here.at });
-            };
-            let (index, after) = expression(alloc, inside, behind)?;
-            let closed = expect_sign(after, Sign::RightBracket)?;
-            let equal = expect_sign(closed, Sign::Equal)?;
-            let (value, end) = expression(alloc, free, equal)?;
-            Ok((Stmt::assign(at, name, Some(index), closed.at, value), end))
-        }
+        TokenKind::Sign(Sign::LeftBracket) => element(alloc, free, here.at, at, name, behind),
         TokenKind::Sign(Sign::Equal) => {
             let (value, end) = expression(alloc, free, behind)?;
             Ok((Stmt::assign(at, name, None, here.at, value), end))
@@ -146,7 +166,7 @@ fn named(
     ensures { Gives (λ x. (option_map stmt_of x.0, x.1.at, kinds x.1.left.now)) result (reading.closed (reading.tail at name (reading.expression free) (reading.inside_of free) here.entry.at (kinds here.entry.left.now))) }
 {
     let (stmt, after) = tail(alloc, free, at, name, here)?;
-    let end = expect_sign(after, Sign::Semicolon)?;
+    let (stmt, end) = with_sign(stmt, after, Sign::Semicolon)?;
     Ok((Some(stmt), end))
 }
 
@@ -230,6 +250,49 @@ fn begins_clause(here: Cursor) -> bool
     }
 }
 
+/// An expression with this keyword behind it.
+#[tactic(auto, unfolding(crate::specs::Constructs::before_word))]
+fn expression_before(
+    alloc: Global,
+    free: u32,
+    keyword: Keyword,
+    here: Cursor,
+) -> Result<(Expr, Cursor), ParseFault>
+    ensures { Gives (λ x. (expr_of x.0, x.1.at, kinds x.1.left.now)) result (before_word (reading.expression free here.entry.at (kinds here.entry.left.now)) keyword) }
+{
+    let (value, after) = expression(alloc, free, here)?;
+    let (value, behind) = with_keyword(value, after, keyword)?;
+    Ok((value, behind))
+}
+
+/// The name that a FOR counts in, and its bounds, with the DO behind them.
+fn counted(
+    alloc: Global,
+    free: u32,
+    here: Cursor,
+) -> Result<(Bytes, Expr, Expr, Cursor), ParseFault>
+    ensures { Gives (λ x. ((x.0, expr_of x.1, expr_of x.2), x.3.at, kinds x.3.left.now)) result (counted (reading.expression free) here.entry.at (kinds here.entry.left.now)) }
+{
+    let (name, named) = name_at(alloc, here)?;
+    let (name, equal) = with_sign(name, named, Sign::Equal)?;
+    let (first, to) = expression_before(alloc, free, Keyword::To, equal)?;
+    match expression_before(alloc, free, Keyword::Do, to) {
+        Ok((last, begin)) => Ok((name, first, last, begin)),
+        Err(fault) => {
+            drop((name, first));
+            Err(fault)
+        }
+    }
+}
+
+/// The value, and the place behind the END that closes what it belongs to.
+pub fn ended<T: Drop>(value: T, here: Cursor) -> Result<(T, Cursor), ParseFault>
+    ensures kept { IfOk result (λ x. x.0 ≡ value) }
+    ensures behind { Gives (λ x. (x.1.at, kinds x.1.left.now)) result (reading.expect (is_keyword End) here.entry.at (kinds here.entry.left.now)) }
+{
+    with_keyword(value, here, Keyword::End)
+}
+
 /// The statements of a body. `free` is the number of levels that may still be opened.
 #[cycle(statements)]
 pub fn body(alloc: Global, free: u32, from: Cursor) -> Result<(Items<Stmt>, Cursor), ParseFault>
@@ -310,14 +373,31 @@ fn behind_word(
 /// An IF, behind its word, which is the token `at`.
 #[cycle(statements)]
 fn choice(alloc: Global, inside: u32, at: u32, here: Cursor) -> Result<(Stmt, Cursor), ParseFault>
-    ensures { Gives (λ x. (stmt_of x.0, x.1.at, kinds x.1.left.now)) result (reading.choice at (reading.within inside) here.entry.at (kinds here.entry.left.now)) }
+    ensures { Gives (λ x. (stmt_of x.0, x.1.at, kinds x.1.left.now)) result (choice at (reading.within inside) here.entry.at (kinds here.entry.left.now)) }
 {
-    let (test, tested) = expression(alloc, inside, here)?;
-    let begin = expect_keyword(tested, Keyword::Then)?;
-    let (block, behind) = body(alloc, inside, begin)?;
+    let (test, begin) = expression_before(alloc, inside, Keyword::Then, here)?;
+    match branches(alloc, inside, begin) {
+        Ok((block, other, end)) => Ok((Stmt::choose(at, test, block, other), end)),
+        Err(fault) => {
+            drop(test);
+            Err(fault)
+        }
+    }
+}
+
+/// The branches of an IF, behind THEN, with the END behind them.
+#[cycle(statements)]
+fn branches(
+    alloc: Global,
+    inside: u32,
+    here: Cursor,
+) -> Result<(Items<Stmt>, Option<Items<Stmt>>, Cursor), ParseFault>
+    ensures { Gives (λ x. ((block_of x.0, other_from (option_map block_of x.1)), x.2.at, kinds x.2.left.now)) result (branches (reading.within inside) here.entry.at (kinds here.entry.left.now)) }
+{
+    let (block, behind) = body(alloc, inside, here)?;
     let (other, after) = else_part(alloc, inside, behind)?;
-    let end = expect_keyword(after, Keyword::End)?;
-    Ok((Stmt::choose(at, test, block, other), end))
+    let (other, end) = ended(other, after)?;
+    Ok((block, other, end))
 }
 
 /// An ELSE part, if there is one.
@@ -345,29 +425,42 @@ fn repetition(
     at: u32,
     here: Cursor,
 ) -> Result<(Stmt, Cursor), ParseFault>
-    ensures { Gives (λ x. (stmt_of x.0, x.1.at, kinds x.1.left.now)) result (reading.loop at (reading.within inside) here.entry.at (kinds here.entry.left.now)) }
+    ensures { Gives (λ x. (stmt_of x.0, x.1.at, kinds x.1.left.now)) result (loop at (reading.within inside) here.entry.at (kinds here.entry.left.now)) }
 {
-    let (test, tested) = expression(alloc, inside, here)?;
-    let begin = expect_keyword(tested, Keyword::Do)?;
-    let (block, behind) = body(alloc, inside, begin)?;
-    let end = expect_keyword(behind, Keyword::End)?;
-    Ok((Stmt::repeat(at, test, block), end))
+    let (test, begin) = expression_before(alloc, inside, Keyword::Do, here)?;
+    match ended_body(alloc, inside, begin) {
+        Ok((block, end)) => Ok((Stmt::repeat(at, test, block), end)),
+        Err(fault) => {
+            drop(test);
+            Err(fault)
+        }
+    }
 }
 
 /// A FOR, behind its word, which is the token `at`.
 #[cycle(statements)]
 fn count(alloc: Global, inside: u32, at: u32, here: Cursor) -> Result<(Stmt, Cursor), ParseFault>
-    ensures { Gives (λ x. (stmt_of x.0, x.1.at, kinds x.1.left.now)) result (reading.count at (reading.within inside) here.entry.at (kinds here.entry.left.now)) }
+    ensures { Gives (λ x. (stmt_of x.0, x.1.at, kinds x.1.left.now)) result (count at (reading.within inside) here.entry.at (kinds here.entry.left.now)) }
 {
-    let (name, named) = name_at(alloc, here)?;
-    let equal = expect_sign(named, Sign::Equal)?;
-    let (first, counted) = expression(alloc, inside, equal)?;
-    let to = expect_keyword(counted, Keyword::To)?;
-    let (last, bounded) = expression(alloc, inside, to)?;
-    let begin = expect_keyword(bounded, Keyword::Do)?;
-    let (block, behind) = body(alloc, inside, begin)?;
-    let end = expect_keyword(behind, Keyword::End)?;
-    Ok((Stmt::count(at, here.at, name, first, last, block), end))
+    let (name, first, last, begin) = counted(alloc, inside, here)?;
+    match ended_body(alloc, inside, begin) {
+        Ok((block, end)) => Ok((Stmt::count(at, here.at, name, first, last, block), end)),
+        Err(fault) => {
+            drop((name, first, last));
+            Err(fault)
+        }
+    }
+}
+
+/// A body with the END behind it.
+#[cycle(statements)]
+#[tactic(auto, unfolding(crate::specs::Constructs::before_word))]
+fn ended_body(alloc: Global, inside: u32, here: Cursor) -> Result<(Items<Stmt>, Cursor), ParseFault>
+    ensures { Gives (λ x. (block_of x.0, x.1.at, kinds x.1.left.now)) result (before_word (reading.body inside here.entry.at (kinds here.entry.left.now)) End) }
+{
+    let (block, behind) = body(alloc, inside, here)?;
+    let (block, end) = ended(block, behind)?;
+    Ok((block, end))
 }
 
 /// A SELECT, behind its word, which is the token `at`.
@@ -382,8 +475,13 @@ fn selection(
 {
     let case = expect_keyword(here, Keyword::Case)?;
     let (subject, behind) = expression(alloc, inside, case)?;
-    let (clauses, other, end) = cases(alloc, inside, behind)?;
-    Ok((Stmt::select(at, subject, clauses, other), end))
+    match cases(alloc, inside, behind) {
+        Ok((clauses, other, end)) => Ok((Stmt::select(at, subject, clauses, other), end)),
+        Err(fault) => {
+            drop(subject);
+            Err(fault)
+        }
+    }
 }
 
 /// The clauses of SELECT and its end.

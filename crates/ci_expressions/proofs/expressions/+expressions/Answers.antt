@@ -6,7 +6,7 @@ use Rattle.ci_tree.specs.Seen.{expr_of, link_of}
 use Rattle.ci_expressions.specs.Gives.{kinds}
 use Rattle.ci_expressions.specs.Reading as reading
 use Rattle.ci_expressions.proofs.Levels.{level_next, stays, fails_above, fails_next}
-use Rattle.ci_expressions.proofs.Loops.{unary_is, rest_is, arguments_some, members_first, goes_on_with, fails, begin, gives_value, gives_same, found_some, length_kinds}
+use Rattle.ci_expressions.proofs.Loops.{unary_is, rest_is, arguments_some, members_first, goes_on_with, fails, begin, gives_value, gives_same, found_some, found_none, round_none, length_kinds}
 use Rattle.ci_expressions.proofs.expressions.+expressions.Goals as goal
 
 pub unary-returns : goal.unary-returns
@@ -46,7 +46,7 @@ rest-returns t c =
 
 pub arguments-returns : goal.arguments-returns
 arguments-returns t c =
-    gives_same _ c.some_arguments.result _ _ (sym (arguments_some (reading.level_on (reading.unary c.args.free) 8) c.args.from.at (kinds c.args.from.left.now) (sym c.begins_expression.ensures.arguments ∙ c.if-not-begins_expression.false)))
+    gives_same _ c.some_arguments.result _ _ (sym (arguments_some (reading.expression c.args.free) c.args.from.at (kinds c.args.from.left.now) (sym c.begins_expression.ensures.arguments ∙ c.if-not-begins_expression.false)))
     (gives_value _ exprs_from c.some_arguments.result _ c.some_arguments.ensures)
 
 pub links-returns-in_err-link : goal.links-returns-in_err-link
@@ -65,10 +65,23 @@ some_arguments-loop-init t c =
     let first = c.in_ok-first.first in
     let behind = c.in_ok-first.behind in
     let one : map expr_of c.push.new.self ≡ expr_of first ∷ [] = ap (map expr_of) (c.in_ok-push.ensures.ok ∙ ap (λ xs. xs ++ first ∷ []) c.in_ok-args.ensures) in
-    begin _ _ _ _ _ _ _ _ one (length_kinds behind.left.now) (members_first (reading.level_on (reading.unary c.args.free) 8) c.args.from.at (kinds c.args.from.left.now) (expr_of first) behind.at (kinds behind.left.now) c.in_ok-first.ensures)
+    begin _ _ _ _ _ _ _ _ one (length_kinds behind.left.now) (members_first (reading.expression c.args.free) c.args.from.at (kinds c.args.from.left.now) (expr_of first) behind.at (kinds behind.left.now) c.in_ok-first.ensures)
 
 pub some_arguments-loop-preserved : goal.some_arguments-loop-preserved
 some_arguments-loop-preserved t c =
     let more : map expr_of c.push-in-loop.new.self ≡ map expr_of c.loop.args ++ expr_of c.in-Some.arg ∷ [] = ap (map expr_of) c.in_ok-push-2.ensures.ok ∙ map_push expr_of c.loop.args c.in-Some.arg in
-    goes_on_with (reading.comma_step (reading.level_on (reading.unary c.args.free) 8)) (map expr_of c.loop.args) _ (length c.in_ok-first.behind.left.now) c.loop.counter c.loop.here.at (kinds c.loop.here.left.now) (expr_of c.in-Some.arg) c.in-Some.after.at (kinds c.in-Some.after.left.now) _
+    goes_on_with (reading.comma_step (reading.expression c.args.free)) (map expr_of c.loop.args) _ (length c.in_ok-first.behind.left.now) c.loop.counter c.loop.here.at (kinds c.loop.here.left.now) (expr_of c.in-Some.arg) c.in-Some.after.at (kinds c.in-Some.after.left.now) _
     more c.loop-test.true (found_some _ _ _ _ c.in_ok-arg.ensures c.in-Some.is) c.loop.invariant
+
+pub links-returns-in_default : goal.links-returns-in_default
+links-returns-in_default t c =
+    round_none (reading.link_at (reading.level_on (reading.unary c.args.free) c.args.group) c.args.group) _ c.loop.here.at (kinds c.loop.here.left.now) (map link_of c.loop.links) _ c.loop.invariant (found_none _ _ _ c.in_ok-link.ensures c.in_default.is)
+
+pub some_arguments-returns-in_default : goal.some_arguments-returns-in_default
+some_arguments-returns-in_default t c =
+    round_none (reading.comma_step (reading.expression c.args.free)) _ c.loop.here.at (kinds c.loop.here.left.now) (map expr_of c.loop.args) _ c.loop.invariant (found_none _ _ _ c.in_ok-arg.ensures c.in_default.is)
+
+pub some_arguments-returns-in_err-arg : goal.some_arguments-returns-in_err-arg
+some_arguments-returns-in_err-arg t c =
+    let p = err_from_is_err_and c.from_residual-in_err-arg.result c.from_residual-in_err-arg.ensures.1 in
+    rw (p.1, p.2) (fails c.in_err-arg.field-0.0 (reading.comma_step (reading.expression c.args.free)) (map expr_of c.loop.args) (length c.in_ok-first.behind.left.now) c.loop.counter c.loop.here.at (kinds c.loop.here.left.now) _ c.loop-test.true c.in_err-arg.ensures c.loop.invariant)

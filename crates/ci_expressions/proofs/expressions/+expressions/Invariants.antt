@@ -7,16 +7,19 @@ use Rattle.ci_expressions.proofs.expressions.+expressions.Given as goal
 
 -- Each call inside a level that it opens has one level fewer; at one level, from the loosest group to the name alone.
 abbrev pub decreases-arguments : goal.decreases-arguments
-decreases-arguments l = 128 * l.free + 71
+decreases-arguments l = 128 * l.free + 72
 
 abbrev pub decreases-some_arguments : goal.decreases-some_arguments
-decreases-some_arguments l = 128 * l.free + 70
+decreases-some_arguments l = 128 * l.free + 71
 
 abbrev pub decreases-argument : goal.decreases-argument
-decreases-argument l = 128 * l.free + 69
+decreases-argument l = 128 * l.free + 70
+
+abbrev pub decreases-expression : goal.decreases-expression
+decreases-expression l = 128 * l.free + 69
 
 abbrev pub decreases-called : goal.decreases-called
-decreases-called l = 128 * l.inside + 72
+decreases-called l = 128 * l.inside + 73
 
 abbrev pub decreases-call_at : goal.decreases-call_at
 decreases-call_at l = 128 * l.free
@@ -59,5 +62,5 @@ invariant-links-loop l =
 
 abbrev pub invariant-some_arguments-loop : goal.invariant-some_arguments-loop
 invariant-some_arguments-loop l =
-    reading.with_front (map expr_of l.args) (reading.gather (reading.comma_step (reading.level_on (reading.unary l.free) 8)) (l.end - l.counter) l.here.at (kinds l.here.left.now))
-    ≡ reading.members (reading.level_on (reading.unary l.free) 8) l.fn.from.at (kinds l.fn.from.left.now)
+    reading.with_front (map expr_of l.args) (reading.gather (reading.comma_step (reading.expression l.free)) (l.end - l.counter) l.here.at (kinds l.here.left.now))
+    ≡ reading.members (reading.expression l.free) l.fn.from.at (kinds l.fn.from.left.now)

@@ -1,10 +1,10 @@
-use Rattle.std.proofs.Common.{◌≡◌, ◌∙◌, ◌++◌, ◌∷◌, [], length, map, ap}
+use Rattle.std.proofs.Common.{◌≡◌, ◌∙◌, ◌-◌, ◌++◌, ◌∷◌, [], zero, length, map, ap, arith}
 use Rattle.std.proofs.lemmas.Result.{err_from_is_err_and}
 use Rattle.std.proofs.lemmas.List.{map_push}
 use Rattle.ci_tree.specs.Seen.{label_of}
 use Rattle.ci_expressions.specs.Gives.{kinds}
 use Rattle.ci_parser.specs.Reading as reading
-use Rattle.ci_expressions.proofs.Loops.{members_first, goes_on_with, begin, found_some, found_none, fails, round_none, length_kinds}
+use Rattle.ci_expressions.proofs.Loops.{members_first, goes_on_with, begin, found_some, found_none, fails, round_none, round_last, length_kinds}
 use Rattle.ci_parser.proofs.members.labels.Goals as goal
 
 pub loop-init : goal.loop-init
@@ -27,3 +27,8 @@ pub returns-in_err-other : goal.returns-in_err-other
 returns-in_err-other c =
     let p = err_from_is_err_and c.from_residual-in_err-other.result c.from_residual-in_err-other.ensures.1 in
     rw (p.1, p.2) (fails c.in_err-other.field-0.0 (reading.comma_step (reading.label (reading.expression c.args.free))) (map label_of c.loop.labels) (length c.in_ok-first.behind.left.now) c.loop.counter c.loop.here.at (kinds c.loop.here.left.now) _ c.loop-test.true c.in_err-other.ensures c.loop.invariant)
+
+pub returns : goal.returns
+returns c =
+    let spent : length c.in_ok-first.behind.left.now - c.loop.counter ≡ zero = omega arith in
+    round_last (reading.comma_step (reading.label (reading.expression c.args.free))) _ c.loop.here.at (kinds c.loop.here.left.now) (map label_of c.loop.labels) _ c.loop.invariant spent

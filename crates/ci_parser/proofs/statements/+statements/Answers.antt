@@ -6,9 +6,18 @@ use Rattle.ci_tree.specs.Tree.{other_from}
 use Rattle.ci_tree.specs.Seen.{stmt_of, clause_of, block_of}
 use Rattle.ci_expressions.specs.Gives.{kinds}
 use Rattle.ci_parser.specs.Reading as reading
-use Rattle.ci_expressions.proofs.Loops.{length_kinds}
+use Rattle.ci_expressions.proofs.Loops.{gives_same, length_kinds}
 use Rattle.ci_parser.proofs.Bodies.{same_ok, body_begins, body_ends, body_fails, body_last, body_goes_on, cases_begin, cases_close, close_fails, clause_fails, clause_goes_on, cases_spent}
+use Rattle.ci_parser.proofs.Constructs.{statement_opens, statement_simple}
 use Rattle.ci_parser.proofs.statements.+statements.Goals as goal
+
+pub statement-returns-in-None : goal.statement-returns-in-None
+statement-returns-in-None t c =
+    gives_same _ c.simple_statement.result _ _ (sym (statement_simple (reading.expression c.args.free) (reading.inside_of c.args.free) c.args.here.at (kinds c.args.here.left.now) (sym c.in-None.ensures))) c.simple_statement.ensures
+
+pub statement-returns-in-Some : goal.statement-returns-in-Some
+statement-returns-in-Some t c =
+    gives_same _ c.opened.result _ _ (sym (statement_opens (reading.expression c.args.free) (reading.inside_of c.args.free) c.args.here.at (kinds c.args.here.left.now) (c.in-Some.word, c.in-Some.behind.at, kinds c.in-Some.behind.left.now) (sym c.in-Some.ensures))) c.opened.ensures
 
 pub body-loop-init : goal.body-loop-init
 body-loop-init t c = body_begins c.args.free _ c.args.from.at (kinds c.args.from.left.now) (map stmt_of c.in_ok-found.found) (ap (map stmt_of) c.in_ok-found.ensures) (length_kinds c.args.from.left.now)

@@ -22,16 +22,22 @@ abbrev pub decreases-clause : goal.decreases-clause
 decreases-clause l = 16 * l.inside + 5
 
 abbrev pub decreases-choice : goal.decreases-choice
-decreases-choice l = 16 * l.inside + 6
+decreases-choice l = 16 * l.inside + 7
+
+abbrev pub decreases-branches : goal.decreases-branches
+decreases-branches l = 16 * l.inside + 6
 
 abbrev pub decreases-else_part : goal.decreases-else_part
 decreases-else_part l = 16 * l.inside + 5
 
 abbrev pub decreases-repetition : goal.decreases-repetition
-decreases-repetition l = 16 * l.inside + 5
+decreases-repetition l = 16 * l.inside + 6
+
+abbrev pub decreases-ended_body : goal.decreases-ended_body
+decreases-ended_body l = 16 * l.inside + 5
 
 abbrev pub decreases-count : goal.decreases-count
-decreases-count l = 16 * l.inside + 5
+decreases-count l = 16 * l.inside + 6
 
 abbrev pub decreases-behind_word : goal.decreases-behind_word
 decreases-behind_word l = 16 * l.inside + 9
