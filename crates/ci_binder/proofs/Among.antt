@@ -1,11 +1,11 @@
 -- Look-ups tell whether a declaration of the same name stands before one.
-use Rattle.std.proofs.Common.{◌≡◌, ℕ, zero, suc, ◌+◌, Bool, true, false, cond, List, [], ◌∷◌, length, take, Option, Some, None, refl, sym, ap, ◌∙◌, arith}
+use Rattle.std.proofs.Common.{◌≡◌, ℕ, zero, suc, ◌+◌, Bool, true, false, cond, List, [], ◌∷◌, length, take, Some, None, refl, sym, ap, ◌∙◌, arith}
 use Rattle.std.specs.Prelude.{not, ◌&&◌, ◌||◌, nat_lt, ◌==◌, position}
 use Rattle.std.specs.List.{list_any, position_or_len}
 use Rattle.std.specs.Str.{str_eq_ignore_ascii_case, str_to_ascii_lowercase}
 use Rattle.std.specs.Cmp.Lexicographic.{nat_list_eq_equiv}
 use Rattle.std.proofs.lemmas.Bool.Decides.{nat_tests}
-use Rattle.ci_names.specs.Declarations.{Function, Variable, Declared, is_of_file, is_public}
+use Rattle.ci_names.specs.Declarations.{Function, Variable, is_of_file, is_public}
 use Rattle.ci_names.specs.Faults.{same_function, same_variable}
 use Rattle.ci_binder.specs.Before.{is_among}
 
@@ -119,12 +119,3 @@ variables_before v vs n = sym (
     ∙ ap (λ b. list_any (own_variable v.file v.name) (take n vs) || b) (sym (any_both v.global (global_variable v.name) (take n vs)))
     ∙ sym (any_either (own_variable v.file v.name) (λ w. v.global && global_variable v.name w) (take n vs))
     ∙ sym (any_same (same_variable v) (λ w. own_variable v.file v.name w || (v.global && global_variable v.name w)) (λ w. either (str_eq_ignore_ascii_case v.name w.name) (str_eq_ignore_ascii_case w.name v.name) (v.file == w.file) (w.file == v.file) v.global w.global (same_name v.name w.name) (same_number v.file w.file)) (take n vs)))
-
--- the same, of numbers that are such places
-pub variables_told : (v : Variable) (d e : Declared) (file n : ℕ) (own everywhere : Option ℕ) → d ≡ e → file ≡ v.file →
-    own ≡ position (own_variable file v.name) d.variables → everywhere ≡ position (global_variable v.name) e.variables →
-    list_any (same_variable v) (take n e.variables) ≡ (is_among n own || (v.global && is_among n everywhere))
-variables_told v d e file n own everywhere de at h i =
-    variables_before v e.variables n
-    ∙ ap (λ o. is_among n o || (v.global && is_among n (position (global_variable v.name) e.variables))) (sym (h ∙ ap (λ x. position (own_variable file v.name) x.variables) de ∙ ap (λ x. position (own_variable x v.name) e.variables) at))
-    ∙ ap (λ o. is_among n own || (v.global && is_among n o)) (sym i)

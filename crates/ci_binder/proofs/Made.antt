@@ -1,10 +1,13 @@
 -- A function of the code is the bound one, and its faults are those of the rules.
-use Rattle.std.proofs.Common.{◌≡◌, ℕ, List, [], ◌++◌, length, map, drop, Option, sym, ap, ◌∙◌}
+use Rattle.std.proofs.Common.{◌≡◌, ℕ, List, [], ◌∷◌, ◌++◌, length, map, drop, Option, refl, sym, ap, ◌∙◌}
 use Rattle.std.specs.Prelude.{not, ◌||◌, ◌==◌, is_some}
 use Rattle.std.specs.List.{list_any}
 use Rattle.std.proofs.lemmas.List.{length-map, drop_at}
+use Rattle.ci_base.specs.declared.bounds.TheConstants.{MOST_FUNCTIONS}
 use Rattle.ci_base.specs.declared.value.Kind.{Kind}
 use Rattle.ci_tree.specs.Bound as to
+use Rattle.ci_tree.specs.declared.bound.Function as code
+use Rattle.ci_tree.specs.SeenBound.{heads_of, function_of}
 use Rattle.ci_names.specs.declared.fault.Fault.{Fault}
 use Rattle.ci_names.specs.declared.fault.BindKind.TheVariants as kinds
 use Rattle.ci_names.specs.declared.fault.Limit.TheVariants as limits
@@ -14,20 +17,14 @@ use Rattle.ci_names.specs.Declarations.{Function, Declared, each_behind, given_k
 use Rattle.ci_names.specs.Scopes.{Scope, Local, param_local, scope_of, with_locals, locals_in_block}
 use Rattle.ci_names.specs.Expressions.{broken}
 use Rattle.ci_names.specs.Statements.{maybe, type_faults, block_faults}
-use Rattle.ci_names.specs.Faults.{param_faults, function_limit, same_function, function_faults}
-use Rattle.ci_names.specs.Binding.{bound_param, bound_function, bound_block}
+use Rattle.ci_names.specs.Faults.{param_faults, same_function, function_faults}
+use Rattle.ci_names.specs.Binding.{heads_in, bound_param, bound_function, bound_block}
 use Rattle.ci_binder.proofs.Told.{function_noted}
 
 -- where the body of a function begins
-pub opened : (d e : Declared) (f : Function) (file : ℕ) (gives : Option Kind) (s here : Scope) → e ≡ d → file ≡ f.file → gives ≡ given_kind f.gives →
-    s ≡ record { declared = e; file = file; gives = gives; locals = [] } → here ≡ with_locals s (map param_local f.params) → here ≡ scope_of d f
-opened d e f file gives s here he hf hg hs h =
-    h
-    ∙ ap (λ t. with_locals t (map param_local f.params)) (
-    hs
-    ∙ ap (λ x. record { declared = x; file = file; gives = gives; locals = [] }) he
-    ∙ ap (λ x. record { declared = d; file = x; gives = gives; locals = [] }) hf
-    ∙ ap (λ x. record { declared = d; file = f.file; gives = x; locals = [] }) hg)
+pub opened : (d : Declared) (f : Function) (gives : Option Kind) (s here : Scope) → gives ≡ given_kind f.gives →
+    s ≡ record { declared = d; file = f.file; gives = gives; locals = [] } → here ≡ with_locals s (map param_local f.params) → here ≡ scope_of d f
+opened d f gives s here hg hs h = h ∙ ap (λ t. with_locals t (map param_local f.params)) (hs ∙ ap (λ x. record { declared = d; file = f.file; gives = x; locals = [] }) hg)
 
 -- the kinds of the locals behind the parameters
 others_same : (d : Declared) (f : Function) (here there : Scope) (others : List Kind) → here ≡ scope_of d f → there ≡ with_locals here (locals_in_block f.body) →
@@ -56,7 +53,7 @@ function_same d f here there name gives params others body h i hn hg hp ho hb =
 pub function_told : (found found1 found2 found3 : Option Fault) (d : Declared) (before : List Function) (f : Function) (s here : Scope) (n : ℕ) → length before ≡ n → s.file ≡ f.file → here ≡ scope_of d f →
     found1 ≡ noted found (
     broken (list_any (same_function f) before || is_some (given_named f.name)) s f.at kinds.DeclaredTwice
-    ++ broken (n == function_limit) s f.at (kinds.Limit limits.Functions)
+    ++ broken (n == MOST_FUNCTIONS) s f.at (kinds.Limit limits.Functions)
     ++ maybe (type_faults s) f.gives) →
     found2 ≡ noted found1 (each_behind (param_faults s) [] f.params) →
     found3 ≡ noted found2 (block_faults here f.body) →
@@ -70,6 +67,15 @@ function_told found found1 found2 found3 d before f s here n hn hs hh h1 h2 h3 =
     h1
     ∙ ap (λ k. noted found (
     broken (list_any (same_function f) before || is_some (given_named f.name)) s f.at kinds.DeclaredTwice
-    ++ broken (k == function_limit) s f.at (kinds.Limit limits.Functions)
+    ++ broken (k == MOST_FUNCTIONS) s f.at (kinds.Limit limits.Functions)
     ++ maybe (type_faults s) f.gives)) (sym hn)))
     ∙ sym (function_noted found d before f s hs)
+
+-- what the bound functions take is what the declared ones take
+pub heads_same : (d : Declared) (fs : List code.Function) → map (function_of (heads_in d)) fs ≡ map (bound_function d) d.functions → heads_of fs ≡ heads_in d
+heads_same d fs h =
+    sym (each_params (function_of (heads_in d)) fs) ∙ ap (map (λ (f : to.Function). f.params)) h ∙ each_params (bound_function d) d.functions
+  where
+    each_params : {A : Type 0} (g : A → to.Function) (xs : List A) → map (λ (f : to.Function). f.params) (map g xs) ≡ map (λ x. (g x).params) xs
+    each_params g [] = refl
+    each_params g (x ∷ xs) = ap (λ ys. (g x).params ∷ ys) (each_params g xs)

@@ -260,13 +260,6 @@ first_within files f h =
     (below_each n (λ (g : Function). g.file) (function_faults d) (function_in d) [] d.functions (functions_within n 0 files (omega arith)))
     (below_each n (λ (v : Variable). v.file) (variable_faults d) (variable_in d) [] d.variables (variables_within n 0 files (omega arith)))))
 
--- the same of what is declared
-pub functions_known : (d : Declared) (files : List (List Item)) (n : ℕ) → d ≡ declared_in files → n ≡ length files → All (λ (f : Function). f.file < n) d.functions
-functions_known d files n h i = subst (λ (e : Declared). All (λ (f : Function). f.file < n) e.functions) (sym h) (functions_within n 0 files (omega arith))
-
-pub variables_known : (d : Declared) (files : List (List Item)) (n : ℕ) → d ≡ declared_in files → n ≡ length files → All (λ (v : Variable). v.file < n) d.variables
-variables_known d files n h i = subst (λ (e : Declared). All (λ (v : Variable). v.file < n) e.variables) (sym h) (variables_within n 0 files (omega arith))
-
 -- the first fault of the functions, and then of the variables
 pub found_all : (d : Declared) (files : List (List Item)) (found1 found2 : Option Fault) → d ≡ declared_in files → found1 ≡ noted None (each_behind (function_faults d) [] d.functions) → found2 ≡ noted found1 (each_behind (variable_faults d) [] d.variables) →
     found2 ≡ noted None (declared_faults (declared_in files))

@@ -1,22 +1,21 @@
 //! From the trees of all files to their project.
 ghost use Rattle.std.specs.Prelude.{◌≡◌, ◌≤◌, map, length, IfOk, IfErr, All};
+ghost use Rattle.ci_base.specs.declared.bounds.TheConstants.{MOST_FILES};
 ghost use Rattle.ci_tree.specs.Seen.{items_of};
 ghost use Rattle.ci_tree.specs.Projects.{IsProject};
-ghost use Rattle.ci_tree.specs.SeenBound.{function_of, project_of};
+ghost use Rattle.ci_tree.specs.SeenBound.{heads_of, function_of, project_of};
 ghost use Rattle.ci_names.specs.Binding.{binds};
-ghost use Rattle.ci_binder.specs.Listed.{variable_at};
+ghost use Rattle.ci_scopes.specs.Listed.{variable_at};
+ghost use Rattle.ci_scopes.specs.Short.{IsShortVariable};
 ghost use Rattle.ci_binder.specs.Parts.{project_with};
 ghost use Rattle.ci_binder.specs.Refusals.{IsRefusal};
-ghost use Rattle.ci_binder.specs.Short.{IsShortVariable};
 
-use crate::files::all_files;
 use crate::functions::bound_functions;
-use crate::listed::{Listed, VariableAt};
 use crate::shared::Shared;
 use crate::variables::note_variables;
 use ci_base::OutOfMemory;
 use ci_names::{BindFault, Fault};
-use ci_scopes::ProjectNames;
+use ci_scopes::{ProjectNames, VariableAt};
 use ci_tree::bound::{Function, ProjectParts};
 use ci_tree::{FileTree, FileTrees, Project};
 use sqlite_items::Items;
@@ -36,19 +35,17 @@ pub fn bind(alloc: Global, files: &FileTrees) -> Result<Project, BindFault>
 
 /// The project of these trees, or their first fault.
 fn bound(alloc: Global, trees: &[FileTree]) -> Result<Result<Project, BindFault>, OutOfMemory>
-    requires { length trees.now ≤ 64 }
+    requires { length trees.now ≤ MOST_FILES }
     ensures ok { IfOk result (λ answer. IfOk answer (λ project. binds (map items_of trees.now) (project_of project))) }
     ensures err { IfOk result (λ answer. IfErr answer (λ fault. IsRefusal (map items_of trees.now) fault)) }
 {
-    let all = Listed::of(alloc, trees)?;
     let names = ProjectNames::of(alloc, trees)?;
-    let files = all_files(alloc, &names, trees.len() as u32)?;
     let mut found = None;
-    let functions = bound_functions(alloc, &names, &files, &mut found, &all.functions)?;
-    note_variables(alloc, &names, &files, &mut found, &all.variables)?;
+    let functions = bound_functions(alloc, &names, &mut found)?;
+    note_variables(alloc, &names, &mut found)?;
     match found {
         Some(Fault { file, token, kind }) => Ok(Err(BindFault::Fault { file, token, kind })),
-        None => Ok(Ok(made(alloc, functions, &all.variables)?)),
+        None => Ok(Ok(made(alloc, functions, names.variables())?)),
     }
 }
 
@@ -59,8 +56,8 @@ fn made(
     variables: &[VariableAt],
 ) -> Result<Project, OutOfMemory>
     requires short { All IsShortVariable (map variable_at variables.now) }
-    requires whole { IsProject (project_with (map function_of functions) (map variable_at variables.now)) }
-    ensures { IfOk result (λ project. project_of project ≡ project_with (map function_of functions) (map variable_at variables.now)) }
+    requires whole { IsProject (project_with (map (function_of (heads_of functions)) functions) (map variable_at variables.now)) }
+    ensures { IfOk result (λ project. project_of project ≡ project_with (map (function_of (heads_of functions)) functions) (map variable_at variables.now)) }
 {
     let Shared {
         cells,

@@ -2,16 +2,10 @@
 #![tactic(auto)]
 
 mod binding;
-mod files;
 mod functions;
-mod listed;
-mod memory;
 mod parameters;
 mod rules;
 mod shared;
-#[cfg(test)]
-mod tests;
-mod values;
 mod variables;
 
 pub use binding::bind;

@@ -9,24 +9,17 @@ ghost use Rattle.ci_names.specs.Scopes.{with_locals, param_local};
 ghost use Rattle.ci_names.specs.Faults.{has_default, param_faults};
 ghost use Rattle.ci_names.specs.Binding.{bound_param};
 ghost use Rattle.ci_scopes.specs.Seen.{scope_of};
-ghost use Rattle.ci_binder.specs.Short.{IsShortFirst, IsShortParam};
+ghost use Rattle.ci_tree.specs.Written.{IsShortFirst, IsShortParam};
 
-use crate::memory::push;
-use crate::rules::{note_first, note_type};
-use crate::values::{kind_of, value_of};
+use crate::rules::note_first;
 use ci_base::OutOfMemory;
-use ci_bodies::note_if;
+use ci_base::bounds::MOST_PARAMETERS;
+use ci_bodies::{note_if, note_local, note_type};
 use ci_names::{BindKind, Fault, Limit};
-use ci_scopes::Scope;
+use ci_scopes::{Scope, kind_of_type, push, value_of};
 use ci_tree::{Param, bound};
 use sqlite_items::Items;
 use std::alloc::Global;
-
-/// The greatest number of parameters of a function.
-const PARAMETER_LIMIT: usize = 16;
-
-/// The greatest number of locals of a function, its parameters among them.
-const LOCAL_LIMIT: usize = 64;
 
 /// Whether a parameter has no default and stands behind one that has.
 fn lacks_default(param: &Param, behind_default: bool) -> bool
@@ -43,23 +36,10 @@ fn note_param(scope: &Scope, found: &mut Option<Fault>, param: &Param, behind_de
     let at = param.at;
     let count = scope.count();
     note_type(found, scope, param.kind);
+    note_local(found, scope, at, &param.name);
     note_if(
         found,
-        scope.has_local(&param.name),
-        scope,
-        at,
-        BindKind::DeclaredTwice,
-    );
-    note_if(
-        found,
-        count == LOCAL_LIMIT,
-        scope,
-        at,
-        BindKind::Limit(Limit::Locals),
-    );
-    note_if(
-        found,
-        count == PARAMETER_LIMIT,
+        count == MOST_PARAMETERS,
         scope,
         at,
         BindKind::Limit(Limit::Parameters),
@@ -71,7 +51,7 @@ fn note_param(scope: &Scope, found: &mut Option<Fault>, param: &Param, behind_de
         at,
         BindKind::ArgumentCount,
     );
-    note_first(found, scope, kind_of(param.kind.name), &param.first);
+    note_first(found, scope, kind_of_type(param.kind.name), &param.first);
 }
 
 /// The parameter.
@@ -84,7 +64,7 @@ fn bound_param(param: &Param) -> bound::Param
         Some(first) => Some(value_of(first)),
     };
     bound::Param {
-        kind: kind_of(param.kind.name),
+        kind: kind_of_type(param.kind.name),
         first,
     }
 }
@@ -108,7 +88,7 @@ pub(crate) fn bound_params<'a>(
         note_param(scope, found, param, behind_default);
         behind_default |= param.first.is_some();
         push(&mut all, bound_param(param))?;
-        scope.declare(&param.name, kind_of(param.kind.name))?;
+        scope.declare(&param.name, kind_of_type(param.kind.name))?;
     }
     Ok(all)
 }

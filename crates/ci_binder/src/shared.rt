@@ -1,16 +1,15 @@
 //! The cells, arrays and GLOBAL scalars of a project.
 ghost use Rattle.std.specs.Prelude.{◌≡◌, ◌++◌, List, [], length, map, flat_map, replicate, IfOk, OnOk, All};
 ghost use Rattle.ci_tree.specs.SeenBound.{cell_of, array_of, global_of};
-ghost use Rattle.ci_names.specs.Declarations.{Variable, each_behind, cells_of};
+ghost use Rattle.ci_names.specs.Declarations.{Variable, each_behind, cells_of, value_of_kind};
 ghost use Rattle.ci_names.specs.Binding as binding;
 ghost use Rattle.ci_names.specs.Binding.{bound_cells, bound_array, bound_global};
-ghost use Rattle.ci_binder.specs.Listed.{variable_at};
-ghost use Rattle.ci_binder.specs.Short.{IsShortFirst, IsShortVariable};
+ghost use Rattle.ci_scopes.specs.Listed.{variable_at};
+ghost use Rattle.ci_tree.specs.Written.{IsShortFirst};
+ghost use Rattle.ci_scopes.specs.Short.{IsShortVariable};
 
-use crate::listed::VariableAt;
-use crate::memory::push;
-use crate::values::{kind_of, size, value_of, value_of_kind};
-use ci_base::{Bytes, Kind, OutOfMemory, Value};
+use ci_base::{Bytes, Kind, OutOfMemory, Text, Value};
+use ci_scopes::{VariableAt, kind_of_type, push, size, value_of};
 use ci_tree::bound::{Array, Cell, Global as GlobalAt};
 use sqlite_items::Items;
 use std::alloc::Global;
@@ -23,13 +22,23 @@ pub(crate) struct Shared {
     pub(crate) globals: Items<GlobalAt>,
 }
 
+/// The value of a kind where nothing else is said: 0, or the empty text.
+fn value_of_kind(kind: Kind) -> Value
+    ensures { result ≡ value_of_kind kind }
+{
+    match kind {
+        Kind::Int => Value::Int(0),
+        Kind::Str => Value::Str(Text::empty()),
+    }
+}
+
 /// What each cell of a variable holds at first.
 fn first_of(v: &VariableAt) -> Value
     requires { IsShortFirst v.now.first.now }
     ensures { result ≡ (binding.cell_of (variable_at v.now)).first }
 {
     match v.first {
-        None => value_of_kind(kind_of(v.kind.name)),
+        None => value_of_kind(kind_of_type(v.kind.name)),
         Some(first) => value_of(first),
     }
 }
@@ -77,7 +86,7 @@ impl Shared {
         ensures globals { OnOk result ((before : List Variable) → cells_of before ≡ length self.old.cells → map global_of self.new.globals ≡ map global_of self.old.globals ++ bound_global before (variable_at v.now)) }
     {
         let at = self.cells.len();
-        let kind = kind_of(v.kind.name);
+        let kind = kind_of_type(v.kind.name);
         let size = size(v.length);
         if v.length.is_some() {
             push(

@@ -5,7 +5,6 @@ use Rattle.ci_tree.specs.Tree as from
 use Rattle.ci_tree.specs.Tree.{exprs_from}
 use Rattle.ci_tree.specs.Bound as to
 use Rattle.ci_tree.specs.Seen as seen
-use Rattle.ci_tree.specs.SeenBound as bound
 use Rattle.ci_tree.specs.declared.tree.Expr as code
 use Rattle.ci_tree.specs.declared.bound.Expr as code_bound
 use Rattle.ci_names.specs.declared.fault.Fault.{Fault}
@@ -14,23 +13,20 @@ use Rattle.ci_names.specs.Given.{Taken}
 use Rattle.ci_names.specs.Scopes.{Scope}
 use Rattle.ci_names.specs.Kinds.{kind_of, are_taken}
 use Rattle.ci_names.specs.Expressions.{args_faults}
-use Rattle.ci_names.specs.Binding.{bound_expr, bound_args, left_out}
+use Rattle.ci_names.specs.Binding.{heads_in, bound_expr, bound_args}
 use Rattle.ci_bodies.specs.Arguments as arguments
 use Rattle.ci_bodies.specs.InFront.{args_in_front}
-use Rattle.ci_bodies.proofs.InFront.{args_pushed}
+use Rattle.ci_bodies.specs.Made.{expr_in, exprs_in}
+use Rattle.ci_bodies.proofs.InFront.{args_pushed, args_all}
 use Rattle.ci_bodies.proofs.Noted.{noted_append}
 
 -- The loop has come to these arguments, where these are taken: what it made and found so far, with theirs, is that of all.
 abbrev pub ArgsAt : Scope → List code_bound.Expr → Bool → Option Fault → List Taken → List code.Expr → List Taken → Option Fault → List code.Expr → Type 0
 ArgsAt s made fit found takes rest first old all = record {
-  tree_is : args_in_front (map bound.expr_of made) (bound_args s takes (seen.exprs_of rest)) ≡ bound_args s first (seen.exprs_of all);
+  tree_is : args_in_front (map (expr_in s) made) (bound_args s (seen.exprs_of rest)) ≡ bound_args s (seen.exprs_of all);
   fit_is : (fit && are_taken s takes (seen.exprs_of rest)) ≡ are_taken s first (seen.exprs_of all);
   found_is : noted found (args_faults s takes (seen.exprs_of rest)) ≡ noted old (args_faults s first (seen.exprs_of all));
 }
-
-tree_more : (s : Scope) (takes : List Taken) (e : from.Expr) (es : from.Exprs) → to.more (bound_expr s e) (bound_args s (arguments.behind takes) es) ≡ bound_args s takes (from.more e es)
-tree_more s [] e es = refl
-tree_more s (taken ∷ takes) e es = refl
 
 fit_more : (s : Scope) (fit : Bool) (takes : List Taken) (e : from.Expr) (es : from.Exprs)
     → ((fit && arguments.fits takes e (kind_of s e)) && are_taken s (arguments.behind takes) es) ≡ (fit && are_taken s takes (from.more e es))
@@ -45,16 +41,14 @@ found_more s found (taken ∷ takes) e es = sym (noted_append found (arguments.a
 
 -- one more
 pub args_more : (s : Scope) (made more : List code_bound.Expr) (one : code_bound.Expr) (fit fits now : Bool) (found new : Option Fault) (takes left : List Taken) (rest behind : List code.Expr) (e : code.Expr) (first : List Taken) (old : Option Fault) (all : List code.Expr)
-    → more ≡ made ++ one ∷ [] → bound.expr_of one ≡ bound_expr s (seen.expr_of e) → fits ≡ arguments.fits takes (seen.expr_of e) (kind_of s (seen.expr_of e)) → now ≡ (fit && fits)
+    → more ≡ made ++ one ∷ [] → expr_in s one ≡ bound_expr s (seen.expr_of e) → fits ≡ arguments.fits takes (seen.expr_of e) (kind_of s (seen.expr_of e)) → now ≡ (fit && fits)
     → new ≡ noted found (arguments.arg_faults s takes (seen.expr_of e)) → left ≡ arguments.behind takes → rest ≡ e ∷ behind
     → ArgsAt s made fit found takes rest first old all → ArgsAt s more now new left behind first old all
 args_more s made more one fit fits now found new takes left rest behind e first old all pushed tree is_fits is_now is_found is_left splits at = record {
   tree_is =
-      args_pushed made more one (bound_args s left (seen.exprs_of behind)) pushed
-      ∙ ap (λ x. args_in_front (map bound.expr_of made) (to.more x (bound_args s left (seen.exprs_of behind)))) tree
-      ∙ ap (λ x. args_in_front (map bound.expr_of made) (to.more (bound_expr s (seen.expr_of e)) (bound_args s x (seen.exprs_of behind)))) is_left
-      ∙ ap (args_in_front (map bound.expr_of made)) (tree_more s takes (seen.expr_of e) (seen.exprs_of behind))
-      ∙ ap (λ x. args_in_front (map bound.expr_of made) (bound_args s takes (seen.exprs_of x))) (sym splits)
+      args_pushed (heads_in s.declared) made more one (bound_args s (seen.exprs_of behind)) pushed
+      ∙ ap (λ x. args_in_front (map (expr_in s) made) (to.more x (bound_args s (seen.exprs_of behind)))) tree
+      ∙ ap (λ x. args_in_front (map (expr_in s) made) (bound_args s (seen.exprs_of x))) (sym splits)
       ∙ at.tree_is;
   fit_is =
       ap (λ x. x && are_taken s left (seen.exprs_of behind)) (is_now ∙ ap (λ x. fit && x) is_fits)
@@ -77,9 +71,9 @@ and_true false = refl
 -- all were read
 pub args_end : (s : Scope) (made : List code_bound.Expr) (fit : Bool) (found : Option Fault) (takes : List Taken) (rest : List code.Expr) (first : List Taken) (old : Option Fault) (all : List code.Expr)
     → rest ≡ [] → ArgsAt s made fit found takes rest first old all
-    → (args_in_front (map bound.expr_of made) (left_out takes) ≡ bound_args s first (seen.exprs_of all)) × (fit ≡ are_taken s first (seen.exprs_of all)) × (found ≡ noted old (args_faults s first (seen.exprs_of all)))
+    → (exprs_in s made ≡ bound_args s (seen.exprs_of all)) × (fit ≡ are_taken s first (seen.exprs_of all)) × (found ≡ noted old (args_faults s first (seen.exprs_of all)))
 args_end s made fit found takes rest first old all ended at = (
-  ap (λ x. args_in_front (map bound.expr_of made) (bound_args s takes (seen.exprs_of x))) (sym ended) ∙ at.tree_is,
+  sym (args_all (map (expr_in s) made)) ∙ ap (λ x. args_in_front (map (expr_in s) made) (bound_args s (seen.exprs_of x))) (sym ended) ∙ at.tree_is,
   and_true fit ∙ ap (λ x. fit && are_taken s takes (seen.exprs_of x)) (sym ended) ∙ at.fit_is,
   ap (λ x. noted found (args_faults s takes (seen.exprs_of x))) (sym ended) ∙ at.found_is,
 )

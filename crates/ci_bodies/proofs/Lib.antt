@@ -5,6 +5,7 @@ pub mod QueRead
 pub mod Arguments
 pub mod Links
 pub mod Scopes
+pub mod Statements
 pub mod LabelSteps
 pub mod LocalSteps
 pub mod BodySteps

@@ -3,9 +3,7 @@ use Rattle.std.proofs.Common.{◌≡◌, List, [], ◌∷◌, ◌++◌, map, Opt
 use Rattle.ci_base.specs.declared.value.Kind.{Kind}
 use Rattle.ci_tree.specs.Tree as from
 use Rattle.ci_tree.specs.Tree.{links_from}
-use Rattle.ci_tree.specs.Bound as to
 use Rattle.ci_tree.specs.Seen as seen
-use Rattle.ci_tree.specs.SeenBound as bound
 use Rattle.ci_tree.specs.declared.tree.Link as code
 use Rattle.ci_tree.specs.declared.bound.Link as code_bound
 use Rattle.ci_names.specs.declared.fault.Fault.{Fault}
@@ -13,8 +11,9 @@ use Rattle.ci_names.specs.Fault.{noted}
 use Rattle.ci_names.specs.Scopes.{Scope}
 use Rattle.ci_names.specs.Kinds.{kind_of, links_kind}
 use Rattle.ci_names.specs.Expressions.{operation, int_operand, expr_faults, links_faults}
-use Rattle.ci_names.specs.Binding.{bound_links}
+use Rattle.ci_names.specs.Binding.{heads_in, bound_links}
 use Rattle.ci_bodies.specs.InFront.{links_in_front}
+use Rattle.ci_bodies.specs.Made.{link_in, links_in}
 use Rattle.ci_bodies.specs.Links.{link_kind, link_faults, bound_link}
 use Rattle.ci_bodies.proofs.InFront.{links_pushed, links_all}
 use Rattle.ci_bodies.proofs.Noted.{noted_append}
@@ -22,7 +21,7 @@ use Rattle.ci_bodies.proofs.Noted.{noted_append}
 -- The loop has come to these members: what it made and found so far, with theirs, is that of all.
 abbrev pub LinksAt : Scope → List code_bound.Link → Option Kind → Option Fault → List code.Link → Option Kind → Option Fault → List code.Link → Type 0
 LinksAt s made kind found rest left old all = record {
-  tree_is : links_in_front (map bound.link_of made) (bound_links s (seen.links_of rest)) ≡ bound_links s (seen.links_of all);
+  tree_is : links_in_front (map (link_in s) made) (bound_links s (seen.links_of rest)) ≡ bound_links s (seen.links_of all);
   kind_is : links_kind s kind (seen.links_of rest) ≡ links_kind s left (seen.links_of all);
   found_is : noted found (links_faults s kind (seen.links_of rest)) ≡ noted old (links_faults s left (seen.links_of all));
 }
@@ -42,14 +41,14 @@ found_more s found k (from.hashes_link at count) ls = sym (noted_append found (i
 
 -- one more
 pub links_more : (s : Scope) (made more : List code_bound.Link) (one : code_bound.Link) (kind next : Option Kind) (found new : Option Fault) (rest behind : List code.Link) (l : code.Link) (left : Option Kind) (old : Option Fault) (all : List code.Link)
-    → more ≡ made ++ one ∷ [] → bound.link_of one ≡ bound_link s (seen.link_of l) → next ≡ link_kind s kind (seen.link_of l) → new ≡ noted found (link_faults s kind (seen.link_of l)) → rest ≡ l ∷ behind
+    → more ≡ made ++ one ∷ [] → link_in s one ≡ bound_link s (seen.link_of l) → next ≡ link_kind s kind (seen.link_of l) → new ≡ noted found (link_faults s kind (seen.link_of l)) → rest ≡ l ∷ behind
     → LinksAt s made kind found rest left old all → LinksAt s more next new behind left old all
 links_more s made more one kind next found new rest behind l left old all pushed tree is_kind is_found splits at = record {
   tree_is =
-      links_pushed made more one (bound_links s (seen.links_of behind)) pushed
-      ∙ ap (λ x. links_in_front (map bound.link_of made) (links_in_front (x ∷ []) (bound_links s (seen.links_of behind)))) tree
-      ∙ ap (links_in_front (map bound.link_of made)) (tree_more s (seen.link_of l) (map seen.link_of behind))
-      ∙ ap (λ x. links_in_front (map bound.link_of made) (bound_links s (seen.links_of x))) (sym splits)
+      links_pushed (heads_in s.declared) made more one (bound_links s (seen.links_of behind)) pushed
+      ∙ ap (λ x. links_in_front (map (link_in s) made) (links_in_front (x ∷ []) (bound_links s (seen.links_of behind)))) tree
+      ∙ ap (links_in_front (map (link_in s) made)) (tree_more s (seen.link_of l) (map seen.link_of behind))
+      ∙ ap (λ x. links_in_front (map (link_in s) made) (bound_links s (seen.links_of x))) (sym splits)
       ∙ at.tree_is;
   kind_is =
       ap (λ x. links_kind s x (seen.links_of behind)) is_kind
@@ -67,9 +66,9 @@ links_more s made more one kind next found new rest behind l left old all pushed
 -- all were read
 pub links_end : (s : Scope) (made : List code_bound.Link) (kind : Option Kind) (found : Option Fault) (rest : List code.Link) (left : Option Kind) (old : Option Fault) (all : List code.Link)
     → rest ≡ [] → LinksAt s made kind found rest left old all
-    → (bound.links_of made ≡ bound_links s (seen.links_of all)) × (kind ≡ links_kind s left (seen.links_of all)) × (found ≡ noted old (links_faults s left (seen.links_of all)))
+    → (links_in s made ≡ bound_links s (seen.links_of all)) × (kind ≡ links_kind s left (seen.links_of all)) × (found ≡ noted old (links_faults s left (seen.links_of all)))
 links_end s made kind found rest left old all ended at = (
-  sym (links_all (map bound.link_of made)) ∙ ap (λ x. links_in_front (map bound.link_of made) (bound_links s (seen.links_of x))) (sym ended) ∙ at.tree_is,
+  sym (links_all (map (link_in s) made)) ∙ ap (λ x. links_in_front (map (link_in s) made) (bound_links s (seen.links_of x))) (sym ended) ∙ at.tree_is,
   ap (λ x. links_kind s kind (seen.links_of x)) (sym ended) ∙ at.kind_is,
   ap (λ x. noted found (links_faults s kind (seen.links_of x))) (sym ended) ∙ at.found_is,
 )

@@ -1,7 +1,9 @@
 pub mod Arguments
-pub mod Forms
 pub mod Found
 pub mod InFront
 pub mod Links
+pub mod Made
+pub mod Parts
 pub mod QueRead
 pub mod Seen
+pub mod Walk

@@ -1,28 +1,22 @@
 //! Bodies: one walk gives a body with its names replaced, and its first fault. The locals of a body hold behind it too.
-ghost use Rattle.std.specs.Prelude.{◌≡◌, ◌≢◌, [], ◌++◌, Option, map, option_map, IfOk, OnOk};
-ghost use Rattle.ci_tree.specs.Seen.{expr_of, stmt_of, clause_of, block_of, clauses_of};
-ghost use Rattle.ci_tree.specs.Bound as to;
-ghost use Rattle.ci_tree.specs.SeenBound as bound;
-ghost use Rattle.ci_base.specs.declared.value.Kind.TheVariants.{Int};
+ghost use Rattle.std.specs.Prelude.{◌≡◌, ◌++◌, map, IfOk, OnOk};
+ghost use Rattle.ci_tree.specs.Seen.{stmt_of, clause_of, block_of, clauses_of};
 ghost use Rattle.ci_names.specs.Fault.{noted};
-ghost use Rattle.ci_names.specs.Scopes.{meaning, with_locals, locals_in, locals_in_block, locals_in_clauses};
-ghost use Rattle.ci_names.specs.Statements.{target, part_faults, stmt_faults, labels_faults, clauses_faults, block_faults};
-ghost use Rattle.ci_names.specs.Binding.{scalar_of, bound_expr, bound_label, bound_before, bound_clauses, bound_block};
+ghost use Rattle.ci_names.specs.Scopes.{with_locals, locals_in_block, locals_in_clauses};
+ghost use Rattle.ci_names.specs.Statements.{labels_faults, clauses_faults, block_faults};
+ghost use Rattle.ci_names.specs.Binding.{bound_label, bound_clauses, bound_block};
 ghost use Rattle.ci_scopes.specs.Seen.{scope_of};
-ghost use Rattle.ci_bodies.specs.declared.forms.Form.TheVariants as form;
-ghost use Rattle.ci_bodies.specs.Forms.{form_of};
-ghost use Rattle.ci_bodies.specs.InFront.{stmts_in_front};
+ghost use Rattle.ci_bodies.specs.Made.{clause_in, block_in, clauses_in};
+ghost use Rattle.ci_bodies.specs.Walk.{StandsBehind, NotesFaults, LeavesScope};
 
-use crate::counters::{Count, head};
+use crate::counters::{Count, Counting, head};
 use crate::expressions::{expression, part};
-use crate::forms::{Form, form_of};
 use crate::labels::labels;
-use crate::locals::declaration;
-use crate::memory::push;
-use crate::simple::plain;
+use crate::locals::declare;
+use crate::simple::{Assignment, assign, call, give_back};
 use ci_base::{Kind, OutOfMemory};
 use ci_names::Fault;
-use ci_scopes::Scope;
+use ci_scopes::{Scope, boxed, push};
 use ci_tree::{Clause, Stmt, bound, list_with_room};
 use sqlite_items::Items;
 use std::alloc::Global;
@@ -35,7 +29,7 @@ pub fn body<'a>(
     found: &mut Option<Fault>,
     body: &'a [Stmt],
 ) -> Result<Items<bound::Stmt>, OutOfMemory>
-    ensures tree { IfOk result (λ x. bound.block_of x ≡ bound_block (scope_of scope.old) (block_of body.now)) }
+    ensures tree { IfOk result (λ x. block_in (scope_of scope.old) x ≡ bound_block (scope_of scope.old) (block_of body.now)) }
     ensures found { OnOk result (found.new ≡ noted found.old (block_faults (scope_of scope.old) (block_of body.now))) }
     ensures scope { OnOk result (scope_of scope.new ≡ with_locals (scope_of scope.old) (locals_in_block (block_of body.now))) }
 {
@@ -46,7 +40,7 @@ pub fn body<'a>(
     Ok(made)
 }
 
-/// A statement, behind those that were made before it.
+/// A statement, behind those that were made before it. The calls of `body` stand here, so that each is seen to go down the tree.
 #[cycle(bodies)]
 fn statement<'a>(
     alloc: Global,
@@ -55,57 +49,36 @@ fn statement<'a>(
     stmt: &'a Stmt,
     into: &mut Items<bound::Stmt>,
 ) -> Result<(), OutOfMemory>
-    ensures tree { OnOk result ((rest : to.Block) → stmts_in_front (map bound.stmt_of into.new) rest ≡ stmts_in_front (map bound.stmt_of into.old) (bound_before (scope_of scope.old) (stmt_of stmt.now) rest)) }
-    ensures found { OnOk result (found.new ≡ noted found.old (stmt_faults (scope_of scope.old) (stmt_of stmt.now))) }
-    ensures scope { OnOk result (scope_of scope.new ≡ with_locals (scope_of scope.old) (locals_in (stmt_of stmt.now))) }
-{
-    match form_of(stmt) {
-        Form::Declaration => declaration(alloc, scope, found, stmt, into),
-        _ => {
-            let one = single(alloc, scope, found, stmt)?;
-            push(into, one)?;
-            Ok(())
-        }
-    }
-}
-
-/// A statement that is no declaration.
-#[cycle(bodies)]
-fn single<'a>(
-    alloc: Global,
-    scope: &mut Scope<'a>,
-    found: &mut Option<Fault>,
-    stmt: &'a Stmt,
-) -> Result<bound::Stmt, OutOfMemory>
-    requires { form_of (stmt_of stmt.now) ≢ form.Declaration }
-    ensures tree { IfOk result (λ x. (rest : to.Block) → bound_before (scope_of scope.old) (stmt_of stmt.now) rest ≡ to.then (bound.stmt_of x) rest) }
-    ensures found { OnOk result (found.new ≡ noted found.old (stmt_faults (scope_of scope.old) (stmt_of stmt.now))) }
-    ensures scope { OnOk result (scope_of scope.new ≡ with_locals (scope_of scope.old) (locals_in (stmt_of stmt.now))) }
-{
-    match form_of(stmt) {
-        Form::Declaration => unreachable!(),
-        Form::Plain => plain(alloc, scope, found, stmt),
-        Form::If => choose(alloc, scope, found, stmt),
-        Form::While => repeat(alloc, scope, found, stmt),
-        Form::For => count(alloc, scope, found, stmt),
-        Form::Select => select(alloc, scope, found, stmt),
-    }
-}
-
-/// An IF.
-#[cycle(bodies)]
-fn choose<'a>(
-    alloc: Global,
-    scope: &mut Scope<'a>,
-    found: &mut Option<Fault>,
-    stmt: &'a Stmt,
-) -> Result<bound::Stmt, OutOfMemory>
-    requires { form_of (stmt_of stmt.now) ≡ form.If }
-    ensures tree { IfOk result (λ x. (rest : to.Block) → bound_before (scope_of scope.old) (stmt_of stmt.now) rest ≡ to.then (bound.stmt_of x) rest) }
-    ensures found { OnOk result (found.new ≡ noted found.old (stmt_faults (scope_of scope.old) (stmt_of stmt.now))) }
-    ensures scope { OnOk result (scope_of scope.new ≡ with_locals (scope_of scope.old) (locals_in (stmt_of stmt.now))) }
+    ensures tree { OnOk result (StandsBehind (scope_of scope.old) (stmt_of stmt.now) into.old into.new) }
+    ensures found { OnOk result (NotesFaults (scope_of scope.old) (stmt_of stmt.now) found.old found.new) }
+    ensures scope { OnOk result (LeavesScope (scope_of scope.old) (stmt_of stmt.now) (scope_of scope.new)) }
 {
     match stmt {
+        Stmt::Declare { kind, locals, .. } => {
+            declare(alloc, scope, found, into, *kind, locals.as_slice())?;
+            Ok(())
+        }
+        Stmt::Assign {
+            at,
+            name,
+            index,
+            equals,
+            value,
+        } => {
+            let assignment = Assignment {
+                at: *at,
+                name,
+                index,
+                equals: *equals,
+                value,
+            };
+            push(into, assign(alloc, scope, found, assignment)?)?;
+            Ok(())
+        }
+        Stmt::CallOf { at, name, args } => {
+            push(into, call(alloc, scope, found, *at, name, args.as_slice())?)?;
+            Ok(())
+        }
         Stmt::If {
             at,
             test,
@@ -113,33 +86,20 @@ fn choose<'a>(
             other,
         } => {
             let (test, _) = part(alloc, scope, found, Kind::Int, test)?;
+            let test = boxed(alloc, test)?;
             let then = body(alloc, scope, found, then.as_slice())?;
             match other {
-                None => Ok(bound::Stmt::choose(*at, test, then, None)),
+                None => {
+                    push(into, bound::Stmt::choose(*at, test, then, None))?;
+                    Ok(())
+                }
                 Some(last) => {
                     let last = body(alloc, scope, found, last.as_slice())?;
-                    Ok(bound::Stmt::choose(*at, test, then, Some(last)))
+                    push(into, bound::Stmt::choose(*at, test, then, Some(last)))?;
+                    Ok(())
                 }
             }
         }
-        _ => unreachable!(),
-    }
-}
-
-/// A WHILE.
-#[cycle(bodies)]
-fn repeat<'a>(
-    alloc: Global,
-    scope: &mut Scope<'a>,
-    found: &mut Option<Fault>,
-    stmt: &'a Stmt,
-) -> Result<bound::Stmt, OutOfMemory>
-    requires { form_of (stmt_of stmt.now) ≡ form.While }
-    ensures tree { IfOk result (λ x. (rest : to.Block) → bound_before (scope_of scope.old) (stmt_of stmt.now) rest ≡ to.then (bound.stmt_of x) rest) }
-    ensures found { OnOk result (found.new ≡ noted found.old (stmt_faults (scope_of scope.old) (stmt_of stmt.now))) }
-    ensures scope { OnOk result (scope_of scope.new ≡ with_locals (scope_of scope.old) (locals_in (stmt_of stmt.now))) }
-{
-    match stmt {
         Stmt::While {
             at,
             test,
@@ -147,26 +107,9 @@ fn repeat<'a>(
         } => {
             let (test, _) = part(alloc, scope, found, Kind::Int, test)?;
             let again = body(alloc, scope, found, again.as_slice())?;
-            Ok(bound::Stmt::repeat(*at, test, again))
+            push(into, bound::Stmt::repeat(*at, test, again))?;
+            Ok(())
         }
-        _ => unreachable!(),
-    }
-}
-
-/// A FOR.
-#[cycle(bodies)]
-fn count<'a>(
-    alloc: Global,
-    scope: &mut Scope<'a>,
-    found: &mut Option<Fault>,
-    stmt: &'a Stmt,
-) -> Result<bound::Stmt, OutOfMemory>
-    requires { form_of (stmt_of stmt.now) ≡ form.For }
-    ensures tree { IfOk result (λ x. (rest : to.Block) → bound_before (scope_of scope.old) (stmt_of stmt.now) rest ≡ to.then (bound.stmt_of x) rest) }
-    ensures found { OnOk result (found.new ≡ noted found.old (stmt_faults (scope_of scope.old) (stmt_of stmt.now))) }
-    ensures scope { OnOk result (scope_of scope.new ≡ with_locals (scope_of scope.old) (locals_in (stmt_of stmt.now))) }
-{
-    match stmt {
         Stmt::For {
             at,
             name_at,
@@ -175,28 +118,17 @@ fn count<'a>(
             to,
             body: again,
         } => {
-            let Count { counter, from, to } = head(alloc, scope, found, *name_at, name, from, to)?;
+            let counting = Counting {
+                at: *name_at,
+                name,
+                from,
+                to,
+            };
+            let Count { counter, from, to } = head(alloc, scope, found, counting)?;
             let again = body(alloc, scope, found, again.as_slice())?;
-            Ok(bound::Stmt::count(*at, counter, from, to, again))
+            push(into, bound::Stmt::count(*at, counter, from, to, again))?;
+            Ok(())
         }
-        _ => unreachable!(),
-    }
-}
-
-/// A SELECT; without ELSE its last body is empty.
-#[cycle(bodies)]
-fn select<'a>(
-    alloc: Global,
-    scope: &mut Scope<'a>,
-    found: &mut Option<Fault>,
-    stmt: &'a Stmt,
-) -> Result<bound::Stmt, OutOfMemory>
-    requires { form_of (stmt_of stmt.now) ≡ form.Select }
-    ensures tree { IfOk result (λ x. (rest : to.Block) → bound_before (scope_of scope.old) (stmt_of stmt.now) rest ≡ to.then (bound.stmt_of x) rest) }
-    ensures found { OnOk result (found.new ≡ noted found.old (stmt_faults (scope_of scope.old) (stmt_of stmt.now))) }
-    ensures scope { OnOk result (scope_of scope.new ≡ with_locals (scope_of scope.old) (locals_in (stmt_of stmt.now))) }
-{
-    match stmt {
         Stmt::Select {
             at,
             subject,
@@ -204,16 +136,25 @@ fn select<'a>(
             other,
         } => {
             let (subject, kind) = expression(alloc, scope, found, subject)?;
+            let subject = boxed(alloc, subject)?;
             let cases = clauses(alloc, scope, found, kind, cases.as_slice())?;
             match other {
-                None => Ok(bound::Stmt::select(*at, subject, cases, Items::new(alloc))),
+                None => {
+                    let last = Items::new(alloc);
+                    push(into, bound::Stmt::select(*at, subject, cases, last))?;
+                    Ok(())
+                }
                 Some(last) => {
                     let last = body(alloc, scope, found, last.as_slice())?;
-                    Ok(bound::Stmt::select(*at, subject, cases, last))
+                    push(into, bound::Stmt::select(*at, subject, cases, last))?;
+                    Ok(())
                 }
             }
         }
-        _ => unreachable!(),
+        Stmt::Return { at, value } => {
+            push(into, give_back(alloc, scope, found, *at, value)?)?;
+            Ok(())
+        }
     }
 }
 
@@ -226,7 +167,7 @@ fn clauses<'a>(
     subject: Option<Kind>,
     clauses: &'a [Clause],
 ) -> Result<Items<bound::Clause>, OutOfMemory>
-    ensures tree { IfOk result (λ x. bound.clauses_of x ≡ bound_clauses (scope_of scope.old) (clauses_of clauses.now)) }
+    ensures tree { IfOk result (λ x. clauses_in (scope_of scope.old) x ≡ bound_clauses (scope_of scope.old) (clauses_of clauses.now)) }
     ensures found { OnOk result (found.new ≡ noted found.old (clauses_faults (scope_of scope.old) subject (clauses_of clauses.now))) }
     ensures scope { OnOk result (scope_of scope.new ≡ with_locals (scope_of scope.old) (locals_in_clauses (clauses_of clauses.now))) }
 {
@@ -247,8 +188,8 @@ fn clause<'a>(
     subject: Option<Kind>,
     clause: &'a Clause,
 ) -> Result<bound::Clause, OutOfMemory>
-    ensures labels { IfOk result (λ x. (bound.clause_of x).labels ≡ map (bound_label (scope_of scope.old)) (clause_of clause.now).labels) }
-    ensures body { IfOk result (λ x. (bound.clause_of x).body ≡ bound_block (scope_of scope.old) (clause_of clause.now).body) }
+    ensures labels { IfOk result (λ x. (clause_in (scope_of scope.old) x).labels ≡ map (bound_label (scope_of scope.old)) (clause_of clause.now).labels) }
+    ensures body { IfOk result (λ x. (clause_in (scope_of scope.old) x).body ≡ bound_block (scope_of scope.old) (clause_of clause.now).body) }
     ensures found { OnOk result (found.new ≡ noted found.old (labels_faults (scope_of scope.old) subject (clause_of clause.now).labels ++ block_faults (scope_of scope.old) (clause_of clause.now).body)) }
     ensures scope { OnOk result (scope_of scope.new ≡ with_locals (scope_of scope.old) (locals_in_block (clause_of clause.now).body)) }
 {

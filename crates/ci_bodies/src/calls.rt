@@ -1,27 +1,22 @@
-//! What calls need: the called function, the number of arguments, and those that are left out.
-ghost use Rattle.std.specs.Prelude.{◌≡◌, List, ◌∷◌, ◌++◌, map, option_map, IfOk, OnOk};
+//! What calls need: the called function, and the number of arguments.
+ghost use Rattle.std.specs.Prelude.{◌≡◌, ◌++◌, map, option_map};
 ghost use Rattle.ci_tree.specs.Tree.{no_expr};
 ghost use Rattle.ci_tree.specs.Seen.{expr_of, exprs_of};
 ghost use Rattle.ci_tree.specs.SeenBound as bound;
 ghost use Rattle.ci_names.specs.Fault.{noted};
 ghost use Rattle.ci_names.specs.Scopes.{meaning};
-ghost use Rattle.ci_names.specs.Given as given;
 ghost use Rattle.ci_names.specs.Kinds.{takes_of, gives_of, may_be_left_out, is_count, is_name_alone};
 ghost use Rattle.ci_names.specs.Expressions.{start_of, called_name, argument_count, call_value};
-ghost use Rattle.ci_names.specs.Binding.{callee_of, constant, left_out};
+ghost use Rattle.ci_names.specs.Binding.{callee_of};
 ghost use Rattle.ci_scopes.specs.Seen.{scope_of, taken_of, called_of};
-ghost use Rattle.ci_bodies.specs.InFront.{args_in_front};
 
 use crate::faults::note_if;
-use crate::memory::push;
 use crate::names::is_variable;
-use ci_base::{Bytes, Kind, OutOfMemory, Value};
+use ci_base::{Bytes, Kind};
 use ci_names::{BindKind, Fault};
 use ci_scopes::{Called, Scope, Taken};
-use ci_tree::bound::{self, Callee};
+use ci_tree::bound::Callee;
 use ci_tree::{Expr, ExprKind};
-use sqlite_items::Items;
-use std::alloc::Global;
 
 /// What the called function takes.
 pub fn takes_of<'a>(called: Option<Called<'a>>) -> &'a [Taken]
@@ -146,47 +141,4 @@ pub fn note_call(
             note_if(found, !fits, scope, at, BindKind::ArgumentCount);
         }
     }
-}
-
-/// A value that stands in the source's place.
-fn constant(alloc: Global, value: &Value) -> Result<bound::Expr, OutOfMemory>
-    ensures { IfOk result (λ e. bound.expr_of e ≡ constant value.now) }
-{
-    match value {
-        Value::Int(number) => Ok(bound::Expr::number(*number)),
-        Value::Str(text) => Ok(bound::Expr::literal(Bytes::copy(alloc, text.bytes())?)),
-    }
-}
-
-/// Adds the value of this argument, which is left out, where it has one.
-fn leave_one_out(
-    alloc: Global,
-    all: &mut Items<bound::Expr>,
-    taken: &Taken,
-) -> Result<(), OutOfMemory>
-    ensures { OnOk result ((behind : List given.Taken) → args_in_front (map bound.expr_of all.new) (left_out behind)
-        ≡ args_in_front (map bound.expr_of all.old) (left_out (taken_of taken.now ∷ behind))) }
-{
-    match taken {
-        Taken::WithDefault { default, .. } => {
-            push(all, constant(alloc, default)?)?;
-            Ok(())
-        }
-        Taken::ByValue { .. } | Taken::ToBeSet { .. } => Ok(()),
-    }
-}
-
-/// Adds the values of the arguments that are left out, which are all of these.
-pub fn leave_out(
-    alloc: Global,
-    args: Items<bound::Expr>,
-    takes: &[Taken],
-) -> Result<Items<bound::Expr>, OutOfMemory>
-    ensures { IfOk result (λ all. bound.exprs_of all ≡ args_in_front (map bound.expr_of args) (left_out (map taken_of takes.now))) }
-{
-    let mut all = args;
-    for taken in takes {
-        leave_one_out(alloc, &mut all, taken)?;
-    }
-    Ok(all)
 }

@@ -1,34 +1,30 @@
 //! Expressions: one walk gives the expression with its names replaced, its kind, and its first fault.
 ghost use Rattle.std.specs.Prelude.{◌≡◌, ◌++◌, if◌then◌else◌, map, IfOk, OnOk};
-ghost use Rattle.ci_base.specs.declared.value.Kind.TheVariants.{Int, Str};
+ghost use Rattle.ci_base.specs.declared.value.Kind.TheVariants.{Int};
 ghost use Rattle.ci_tree.specs.Tree as tree;
 ghost use Rattle.ci_tree.specs.Seen.{expr_of, link_of, exprs_of, links_of};
-ghost use Rattle.ci_tree.specs.Bound as to;
-ghost use Rattle.ci_tree.specs.SeenBound as bound;
 ghost use Rattle.ci_tree.specs.Operators.{has_kind, joins, joined};
-ghost use Rattle.ci_names.specs.Fault.{noted};
 ghost use Rattle.ci_names.specs.Scopes.{meaning};
 ghost use Rattle.ci_names.specs.Given.{to_be_set};
-ghost use Rattle.ci_names.specs.Kinds.{kind_of, what_kind, links_kind, is_taken, are_taken};
-ghost use Rattle.ci_names.specs.Expressions.{argument, operation, expr_faults, what_faults, links_faults, args_faults};
+ghost use Rattle.ci_names.specs.Kinds.{kind_of, links_kind};
+ghost use Rattle.ci_names.specs.Expressions.{operation, expr_faults, links_faults, args_faults};
 ghost use Rattle.ci_names.specs.Statements.{part_faults};
-ghost use Rattle.ci_names.specs.Binding.{array_of, bound_expr, bound_what, bound_links, bound_args};
+ghost use Rattle.ci_names.specs.Binding.{array_of};
 ghost use Rattle.ci_scopes.specs.Seen.{scope_of, taken_of};
 ghost use Rattle.ci_bodies.specs.Arguments as args;
-ghost use Rattle.ci_bodies.specs.Links.{link_kind, link_faults, bound_link};
+ghost use Rattle.ci_bodies.specs.Links.{link_kind, link_faults};
+ghost use Rattle.ci_bodies.specs.Parts.{Notes, IsBoundExpr, HasKind, NotesExpr, IsBoundWhat, WhatHasKind, NotesWhat, IsBoundLink, AreBoundLinks, AreBoundArgs, FitsTaken, FitTaken, NotesArgument};
 
 use crate::calls::{
-    callee_of, gives_of, is_count, is_name_alone, leave_out, note_call, note_value, start_of,
-    takes_of,
+    callee_of, gives_of, is_count, is_name_alone, note_call, note_value, start_of, takes_of,
 };
 use crate::faults::{note_also, note_if};
 use crate::kinds::{clash, differs, formed, has_kind, joined, joins};
-use crate::memory::{boxed, push};
 use crate::names::{array_of, element_kind, note_indexed, note_plain, plain_kind, scalar_of};
 use crate::que_read::called_with;
 use ci_base::{Bytes, Kind, OutOfMemory};
 use ci_names::{BindKind, Fault};
-use ci_scopes::{Scope, Taken};
+use ci_scopes::{Scope, Taken, boxed, push};
 use ci_tree::{Expr, ExprKind, Link, Operator, bound, list_with_room};
 use sqlite_items::Items;
 use std::alloc::Global;
@@ -41,13 +37,16 @@ pub fn expression(
     found: &mut Option<Fault>,
     e: &Expr,
 ) -> Result<(bound::Expr, Option<Kind>), OutOfMemory>
-    ensures tree { IfOk result (λ x. bound.expr_of x.0 ≡ bound_expr (scope_of scope.now) (expr_of e.now)) }
-    ensures kind { IfOk result (λ x. x.1 ≡ kind_of (scope_of scope.now) (expr_of e.now)) }
-    ensures found { OnOk result (found.new ≡ noted found.old (expr_faults (scope_of scope.now) (expr_of e.now))) }
+    ensures tree { IfOk result (λ x. IsBoundExpr (scope_of scope.now) (expr_of e.now) x.0) }
+    ensures kind { IfOk result (λ x. HasKind (scope_of scope.now) (expr_of e.now) x.1) }
+    ensures found { OnOk result (NotesExpr (scope_of scope.now) (expr_of e.now) found.old found.new) }
 {
     match &e.what {
         ExprKind::Number { value } => Ok((bound::Expr::number(*value), Some(Kind::Int))),
-        ExprKind::Literal { text } => literal(alloc, text),
+        ExprKind::Literal { text } => {
+            let copy = Bytes::copy(alloc, text.bytes())?;
+            Ok((bound::Expr::literal(copy), Some(Kind::Str)))
+        }
         ExprKind::Name { name } => Ok(plain(scope, found, e.at, name)),
         ExprKind::Element { name, index } => {
             element(alloc, scope, found, e.at, name, index.get())
@@ -66,15 +65,6 @@ pub fn expression(
     }
 }
 
-/// A text.
-fn literal(alloc: Global, text: &Bytes) -> Result<(bound::Expr, Option<Kind>), OutOfMemory>
-    ensures tree { IfOk result (λ x. bound.expr_of x.0 ≡ to.literal text.now) }
-    ensures kind { IfOk result (λ x. x.1 ≡ Some Str) }
-{
-    let copy = Bytes::copy(alloc, text.bytes())?;
-    Ok((bound::Expr::literal(copy), Some(Kind::Str)))
-}
-
 /// A name that stands alone.
 fn plain(
     scope: &Scope,
@@ -82,9 +72,9 @@ fn plain(
     at: u32,
     name: &Bytes,
 ) -> (bound::Expr, Option<Kind>)
-    ensures tree { bound.expr_of result.0 ≡ bound_what (scope_of scope.now) (tree.name name.now) }
-    ensures kind { result.1 ≡ what_kind (scope_of scope.now) (tree.name name.now) }
-    ensures found { found.new ≡ noted found.old (what_faults (scope_of scope.now) at (tree.name name.now)) }
+    ensures tree { IsBoundWhat (scope_of scope.now) (tree.name name.now) result.0 }
+    ensures kind { WhatHasKind (scope_of scope.now) (tree.name name.now) result.1 }
+    ensures found { NotesWhat (scope_of scope.now) at (tree.name name.now) found.old found.new }
 {
     let meaning = scope.meaning(name);
     note_plain(found, scope, at, meaning);
@@ -101,9 +91,9 @@ fn element(
     name: &Bytes,
     index: &Expr,
 ) -> Result<(bound::Expr, Option<Kind>), OutOfMemory>
-    ensures tree { IfOk result (λ x. bound.expr_of x.0 ≡ bound_what (scope_of scope.now) (tree.element name.now (expr_of index.now))) }
-    ensures kind { IfOk result (λ x. x.1 ≡ what_kind (scope_of scope.now) (tree.element name.now (expr_of index.now))) }
-    ensures found { OnOk result (found.new ≡ noted found.old (what_faults (scope_of scope.now) at (tree.element name.now (expr_of index.now)))) }
+    ensures tree { IfOk result (λ x. IsBoundWhat (scope_of scope.now) (tree.element name.now (expr_of index.now)) x.0) }
+    ensures kind { IfOk result (λ x. WhatHasKind (scope_of scope.now) (tree.element name.now (expr_of index.now)) x.1) }
+    ensures found { OnOk result (NotesWhat (scope_of scope.now) at (tree.element name.now (expr_of index.now)) found.old found.new) }
 {
     let (array, index, kind) = indexed(alloc, scope, found, at, name, index)?;
     Ok((bound::Expr::element(array, boxed(alloc, index)?), kind))
@@ -120,9 +110,9 @@ pub fn indexed(
     index: &Expr,
 ) -> Result<(usize, bound::Expr, Option<Kind>), OutOfMemory>
     ensures array { IfOk result (λ x. x.0 ≡ array_of (meaning (scope_of scope.now) name.now)) }
-    ensures index { IfOk result (λ x. bound.expr_of x.1 ≡ bound_expr (scope_of scope.now) (expr_of index.now)) }
-    ensures kind { IfOk result (λ x. x.2 ≡ what_kind (scope_of scope.now) (tree.element name.now (expr_of index.now))) }
-    ensures found { OnOk result (found.new ≡ noted found.old (what_faults (scope_of scope.now) at (tree.element name.now (expr_of index.now)))) }
+    ensures index { IfOk result (λ x. IsBoundExpr (scope_of scope.now) (expr_of index.now) x.1) }
+    ensures kind { IfOk result (λ x. WhatHasKind (scope_of scope.now) (tree.element name.now (expr_of index.now)) x.2) }
+    ensures found { OnOk result (NotesWhat (scope_of scope.now) at (tree.element name.now (expr_of index.now)) found.old found.new) }
 {
     let meaning = scope.meaning(name);
     note_indexed(found, scope, at, meaning);
@@ -144,9 +134,9 @@ pub fn part(
     kind: Kind,
     e: &Expr,
 ) -> Result<(bound::Expr, bool), OutOfMemory>
-    ensures tree { IfOk result (λ x. bound.expr_of x.0 ≡ bound_expr (scope_of scope.now) (expr_of e.now)) }
+    ensures tree { IfOk result (λ x. IsBoundExpr (scope_of scope.now) (expr_of e.now) x.0) }
     ensures fits { IfOk result (λ x. x.1 ≡ has_kind kind (kind_of (scope_of scope.now) (expr_of e.now))) }
-    ensures found { OnOk result (found.new ≡ noted found.old (part_faults (scope_of scope.now) kind (expr_of e.now))) }
+    ensures found { OnOk result (Notes (part_faults (scope_of scope.now) kind (expr_of e.now)) found.old found.new) }
 {
     let mut inside = None;
     let (bound, given) = expression(alloc, scope, &mut inside, e)?;
@@ -171,9 +161,9 @@ fn unary(
     minus: bool,
     operand: &Expr,
 ) -> Result<(bound::Expr, Option<Kind>), OutOfMemory>
-    ensures tree { IfOk result (λ x. bound.expr_of x.0 ≡ bound_what (scope_of scope.now) (tree.unary minus (expr_of operand.now))) }
-    ensures kind { IfOk result (λ x. x.1 ≡ what_kind (scope_of scope.now) (tree.unary minus (expr_of operand.now))) }
-    ensures found { OnOk result (found.new ≡ noted found.old (what_faults (scope_of scope.now) at (tree.unary minus (expr_of operand.now)))) }
+    ensures tree { IfOk result (λ x. IsBoundWhat (scope_of scope.now) (tree.unary minus (expr_of operand.now)) x.0) }
+    ensures kind { IfOk result (λ x. WhatHasKind (scope_of scope.now) (tree.unary minus (expr_of operand.now)) x.1) }
+    ensures found { OnOk result (NotesWhat (scope_of scope.now) at (tree.unary minus (expr_of operand.now)) found.old found.new) }
 {
     let mut inside = None;
     let (bound, given) = expression(alloc, scope, &mut inside, operand)?;
@@ -211,9 +201,9 @@ fn links(
     left: Option<Kind>,
     rest: &[Link],
 ) -> Result<(Items<bound::Link>, Option<Kind>), OutOfMemory>
-    ensures tree { IfOk result (λ x. bound.links_of x.0 ≡ bound_links (scope_of scope.now) (links_of rest.now)) }
+    ensures tree { IfOk result (λ x. AreBoundLinks (scope_of scope.now) (links_of rest.now) x.0) }
     ensures kind { IfOk result (λ x. x.1 ≡ links_kind (scope_of scope.now) left (links_of rest.now)) }
-    ensures found { OnOk result (found.new ≡ noted found.old (links_faults (scope_of scope.now) left (links_of rest.now))) }
+    ensures found { OnOk result (Notes (links_faults (scope_of scope.now) left (links_of rest.now)) found.old found.new) }
 {
     let mut links = list_with_room(alloc, rest.len())?;
     let mut kind = left;
@@ -234,9 +224,9 @@ fn link(
     left: Option<Kind>,
     member: &Link,
 ) -> Result<(bound::Link, Option<Kind>), OutOfMemory>
-    ensures tree { IfOk result (λ x. bound.link_of x.0 ≡ bound_link (scope_of scope.now) (link_of member.now)) }
+    ensures tree { IfOk result (λ x. IsBoundLink (scope_of scope.now) (link_of member.now) x.0) }
     ensures kind { IfOk result (λ x. x.1 ≡ link_kind (scope_of scope.now) left (link_of member.now)) }
-    ensures found { OnOk result (found.new ≡ noted found.old (link_faults (scope_of scope.now) left (link_of member.now))) }
+    ensures found { OnOk result (Notes (link_faults (scope_of scope.now) left (link_of member.now)) found.old found.new) }
 {
     match member {
         Link::Hashes { at, count } => {
@@ -271,10 +261,10 @@ fn right(
     operator: Operator,
     operand: &Expr,
 ) -> Result<(bound::Expr, Option<Kind>), OutOfMemory>
-    ensures tree { IfOk result (λ x. bound.expr_of x.0 ≡ bound_expr (scope_of scope.now) (expr_of operand.now)) }
+    ensures tree { IfOk result (λ x. IsBoundExpr (scope_of scope.now) (expr_of operand.now) x.0) }
     ensures kind { IfOk result (λ x. x.1 ≡ joined (joins operator) left (kind_of (scope_of scope.now) (expr_of operand.now))) }
-    ensures found { OnOk result (found.new ≡ noted found.old (operation (scope_of scope.now) at operator left (kind_of (scope_of scope.now) (expr_of operand.now))
-        ++ expr_faults (scope_of scope.now) (expr_of operand.now))) }
+    ensures found { OnOk result (Notes (operation (scope_of scope.now) at operator left (kind_of (scope_of scope.now) (expr_of operand.now))
+        ++ expr_faults (scope_of scope.now) (expr_of operand.now)) found.old found.new) }
 {
     let mut inside = None;
     let (bound, right) = expression(alloc, scope, &mut inside, operand)?;
@@ -300,9 +290,9 @@ fn call_value(
     name: &Bytes,
     args: &[Expr],
 ) -> Result<(bound::Expr, Option<Kind>), OutOfMemory>
-    ensures tree { IfOk result (λ x. bound.expr_of x.0 ≡ bound_what (scope_of scope.now) (tree.call name.now (exprs_of args.now))) }
-    ensures kind { IfOk result (λ x. x.1 ≡ what_kind (scope_of scope.now) (tree.call name.now (exprs_of args.now))) }
-    ensures found { OnOk result (found.new ≡ noted found.old (what_faults (scope_of scope.now) at (tree.call name.now (exprs_of args.now)))) }
+    ensures tree { IfOk result (λ x. IsBoundWhat (scope_of scope.now) (tree.call name.now (exprs_of args.now)) x.0) }
+    ensures kind { IfOk result (λ x. WhatHasKind (scope_of scope.now) (tree.call name.now (exprs_of args.now)) x.1) }
+    ensures found { OnOk result (NotesWhat (scope_of scope.now) at (tree.call name.now (exprs_of args.now)) found.old found.new) }
 {
     let called = scope.callee(name);
     note_value(found, scope, at, called);
@@ -317,7 +307,7 @@ fn call_value(
     Ok((bound::Expr::called(call), kind))
 }
 
-/// All arguments of a call, those that are left out among them; and whether each can stand where it stands.
+/// The arguments of a call that stand in the source; and whether each can stand where it stands.
 #[cycle(expressions)]
 pub fn arguments(
     alloc: Global,
@@ -326,9 +316,9 @@ pub fn arguments(
     takes: &[Taken],
     args: &[Expr],
 ) -> Result<(Items<bound::Expr>, bool), OutOfMemory>
-    ensures tree { IfOk result (λ x. bound.exprs_of x.0 ≡ bound_args (scope_of scope.now) (map taken_of takes.now) (exprs_of args.now)) }
-    ensures fit { IfOk result (λ x. x.1 ≡ are_taken (scope_of scope.now) (map taken_of takes.now) (exprs_of args.now)) }
-    ensures found { OnOk result (found.new ≡ noted found.old (args_faults (scope_of scope.now) (map taken_of takes.now) (exprs_of args.now))) }
+    ensures tree { IfOk result (λ x. AreBoundArgs (scope_of scope.now) (exprs_of args.now) x.0) }
+    ensures fit { IfOk result (λ x. FitTaken (scope_of scope.now) (map taken_of takes.now) (exprs_of args.now) x.1) }
+    ensures found { OnOk result (Notes (args_faults (scope_of scope.now) (map taken_of takes.now) (exprs_of args.now)) found.old found.new) }
 {
     let mut bound = list_with_room(alloc, args.len())?;
     let mut left = takes;
@@ -339,7 +329,7 @@ pub fn arguments(
         fit = fit && fits;
         left = behind(left);
     }
-    Ok((leave_out(alloc, bound, left)?, fit))
+    Ok((bound, fit))
 }
 
 /// What is taken behind the next argument.
@@ -361,9 +351,9 @@ fn argument(
     takes: &[Taken],
     arg: &Expr,
 ) -> Result<(bound::Expr, bool), OutOfMemory>
-    ensures tree { IfOk result (λ x. bound.expr_of x.0 ≡ bound_expr (scope_of scope.now) (expr_of arg.now)) }
+    ensures tree { IfOk result (λ x. IsBoundExpr (scope_of scope.now) (expr_of arg.now) x.0) }
     ensures fits { IfOk result (λ x. x.1 ≡ args.fits (map taken_of takes.now) (expr_of arg.now) (kind_of (scope_of scope.now) (expr_of arg.now))) }
-    ensures found { OnOk result (found.new ≡ noted found.old (args.arg_faults (scope_of scope.now) (map taken_of takes.now) (expr_of arg.now))) }
+    ensures found { OnOk result (Notes (args.arg_faults (scope_of scope.now) (map taken_of takes.now) (expr_of arg.now)) found.old found.new) }
 {
     match takes {
         [] => {
@@ -383,9 +373,9 @@ fn taken_argument(
     taken: &Taken,
     arg: &Expr,
 ) -> Result<(bound::Expr, bool), OutOfMemory>
-    ensures tree { IfOk result (λ x. bound.expr_of x.0 ≡ bound_expr (scope_of scope.now) (expr_of arg.now)) }
-    ensures fits { IfOk result (λ x. x.1 ≡ is_taken (taken_of taken.now) (expr_of arg.now) (kind_of (scope_of scope.now) (expr_of arg.now))) }
-    ensures found { OnOk result (found.new ≡ noted found.old (argument (scope_of scope.now) (taken_of taken.now) (expr_of arg.now) ++ expr_faults (scope_of scope.now) (expr_of arg.now))) }
+    ensures tree { IfOk result (λ x. IsBoundExpr (scope_of scope.now) (expr_of arg.now) x.0) }
+    ensures fits { IfOk result (λ x. FitsTaken (scope_of scope.now) (taken_of taken.now) (expr_of arg.now) x.1) }
+    ensures found { OnOk result (NotesArgument (scope_of scope.now) (taken_of taken.now) (expr_of arg.now) found.old found.new) }
 {
     match taken {
         Taken::ByValue { kind } => part(alloc, scope, found, *kind, arg),
@@ -403,9 +393,9 @@ fn set_argument(
     kind: Kind,
     arg: &Expr,
 ) -> Result<(bound::Expr, bool), OutOfMemory>
-    ensures tree { IfOk result (λ x. bound.expr_of x.0 ≡ bound_expr (scope_of scope.now) (expr_of arg.now)) }
-    ensures fits { IfOk result (λ x. x.1 ≡ is_taken (to_be_set kind) (expr_of arg.now) (kind_of (scope_of scope.now) (expr_of arg.now))) }
-    ensures found { OnOk result (found.new ≡ noted found.old (argument (scope_of scope.now) (to_be_set kind) (expr_of arg.now) ++ expr_faults (scope_of scope.now) (expr_of arg.now))) }
+    ensures tree { IfOk result (λ x. IsBoundExpr (scope_of scope.now) (expr_of arg.now) x.0) }
+    ensures fits { IfOk result (λ x. FitsTaken (scope_of scope.now) (to_be_set kind) (expr_of arg.now) x.1) }
+    ensures found { OnOk result (NotesArgument (scope_of scope.now) (to_be_set kind) (expr_of arg.now) found.old found.new) }
 {
     if is_name_alone(arg) {
         return part(alloc, scope, found, kind, arg);

@@ -1,18 +1,15 @@
 //! The labels of SELECT.
-ghost use Rattle.std.specs.Prelude.{◌≡◌, map, IfOk, OnOk};
+ghost use Rattle.std.specs.Prelude.{map, IfOk, OnOk};
 ghost use Rattle.ci_tree.specs.Seen.{expr_of, label_of};
-ghost use Rattle.ci_tree.specs.SeenBound as bound;
-ghost use Rattle.ci_names.specs.Fault.{noted};
 ghost use Rattle.ci_names.specs.Statements.{compared, label_faults, labels_faults};
-ghost use Rattle.ci_names.specs.Binding.{bound_expr, bound_label};
 ghost use Rattle.ci_scopes.specs.Seen.{scope_of};
+ghost use Rattle.ci_bodies.specs.Parts.{Notes, IsBoundExpr, IsBoundLabel, AreBoundLabels};
 
 use crate::calls::start_of;
-use crate::memory::push;
 use crate::simple::alike;
 use ci_base::{Kind, OutOfMemory};
 use ci_names::Fault;
-use ci_scopes::Scope;
+use ci_scopes::{Scope, push};
 use ci_tree::{Expr, Label, bound, list_with_room};
 use sqlite_items::Items;
 use std::alloc::Global;
@@ -25,8 +22,8 @@ fn compared(
     subject: Option<Kind>,
     value: &Expr,
 ) -> Result<bound::Expr, OutOfMemory>
-    ensures tree { IfOk result (λ x. bound.expr_of x ≡ bound_expr (scope_of scope.now) (expr_of value.now)) }
-    ensures found { OnOk result (found.new ≡ noted found.old (compared (scope_of scope.now) subject (expr_of value.now))) }
+    ensures tree { IfOk result (λ x. IsBoundExpr (scope_of scope.now) (expr_of value.now) x) }
+    ensures found { OnOk result (Notes (compared (scope_of scope.now) subject (expr_of value.now)) found.old found.new) }
 {
     alike(alloc, scope, found, start_of(value), subject, value)
 }
@@ -39,8 +36,8 @@ fn label(
     subject: Option<Kind>,
     label: &Label,
 ) -> Result<bound::Label, OutOfMemory>
-    ensures tree { IfOk result (λ x. bound.label_of x ≡ bound_label (scope_of scope.now) (label_of label.now)) }
-    ensures found { OnOk result (found.new ≡ noted found.old (label_faults (scope_of scope.now) subject (label_of label.now))) }
+    ensures tree { IfOk result (λ x. IsBoundLabel (scope_of scope.now) (label_of label.now) x) }
+    ensures found { OnOk result (Notes (label_faults (scope_of scope.now) subject (label_of label.now)) found.old found.new) }
 {
     match label {
         Label::One { value } => {
@@ -74,8 +71,8 @@ pub fn labels(
     subject: Option<Kind>,
     labels: &[Label],
 ) -> Result<Items<bound::Label>, OutOfMemory>
-    ensures tree { IfOk result (λ x. map bound.label_of x ≡ map (bound_label (scope_of scope.now)) (map label_of labels.now)) }
-    ensures found { OnOk result (found.new ≡ noted found.old (labels_faults (scope_of scope.now) subject (map label_of labels.now))) }
+    ensures tree { IfOk result (λ x. AreBoundLabels (scope_of scope.now) (map label_of labels.now) x) }
+    ensures found { OnOk result (Notes (labels_faults (scope_of scope.now) subject (map label_of labels.now)) found.old found.new) }
 {
     let mut made = list_with_room(alloc, labels.len())?;
     for one in labels {

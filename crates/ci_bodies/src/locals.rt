@@ -1,46 +1,24 @@
 //! Declarations of locals.
 ghost use Rattle.std.specs.Prelude.{◌≡◌, [], ◌∷◌, ◌++◌, map, option_map, OnOk};
-ghost use Rattle.ci_tree.specs.Bound as to;
-ghost use Rattle.ci_tree.specs.Seen as seen;
 ghost use Rattle.ci_tree.specs.Seen.{expr_of, local_of};
-ghost use Rattle.ci_tree.specs.SeenBound.{stmt_of};
 ghost use Rattle.ci_names.specs.Fault.{noted};
 ghost use Rattle.ci_names.specs.Declarations.{kind_of_type, is_out_of_scope};
-ghost use Rattle.ci_names.specs.Scopes.{with_locals, declared_local, locals_in};
-ghost use Rattle.ci_names.specs.Statements.{type_faults, local_name, maybe, part_faults, locals_faults, stmt_faults};
-ghost use Rattle.ci_names.specs.Binding.{set_before, locals_before, bound_before};
+ghost use Rattle.ci_names.specs.Scopes.{with_locals, declared_local};
+ghost use Rattle.ci_names.specs.Statements.{type_faults, local_name, maybe, part_faults, locals_faults};
+ghost use Rattle.ci_names.specs.Binding.{set_before, locals_before};
 ghost use Rattle.ci_scopes.specs.Seen.{scope_of};
-ghost use Rattle.ci_bodies.specs.declared.forms.Form.TheVariants as form;
-ghost use Rattle.ci_bodies.specs.Forms.{form_of};
-ghost use Rattle.ci_bodies.specs.InFront.{stmts_in_front};
+ghost use Rattle.ci_bodies.specs.Parts.{Notes, StandBehind};
 
 use crate::expressions::part;
 use crate::faults::note_if;
-use crate::memory::push;
+use ci_base::bounds::MOST_LOCALS;
 use ci_base::{Bytes, Kind, OutOfMemory};
 use ci_names::{BindKind, Fault, Limit};
-use ci_scopes::Scope;
+use ci_scopes::{Scope, kind_of_type, push};
 use ci_tree::bound::{self, Scalar};
-use ci_tree::{Expr, LocalAt, Stmt, TypeAt, TypeName};
+use ci_tree::{Expr, LocalAt, TypeAt, TypeName};
 use sqlite_items::Items;
 use std::alloc::Global;
-
-/// The greatest number of locals of a function, its parameters among them.
-const LOCALS: usize = 64;
-
-/// The kind of a type; one that is out of scope counts as INT.
-pub fn kind_of_type(name: TypeName) -> Kind
-    ensures { result ≡ kind_of_type name }
-{
-    match name {
-        TypeName::String => Kind::Str,
-        TypeName::Int
-        | TypeName::Real
-        | TypeName::Object
-        | TypeName::Quality
-        | TypeName::Timestamp => Kind::Int,
-    }
-}
 
 /// Whether the type is REAL, OBJECT, QUALITY or TIMESTAMP.
 fn is_out_of_scope(name: TypeName) -> bool
@@ -78,7 +56,7 @@ pub fn note_local(found: &mut Option<Fault>, scope: &Scope, at: u32, name: &Byte
     );
     note_if(
         found,
-        scope.count() == LOCALS,
+        scope.count() == MOST_LOCALS,
         scope,
         at,
         BindKind::Limit(Limit::Locals),
@@ -95,8 +73,8 @@ fn first_value(
     at: u32,
     value: &Option<Expr>,
 ) -> Result<(), OutOfMemory>
-    ensures tree { OnOk result ((rest : to.Block) → stmts_in_front (map stmt_of into.new) rest ≡ stmts_in_front (map stmt_of into.old) (set_before (scope_of scope.now) at (option_map expr_of value.now) rest)) }
-    ensures found { OnOk result (found.new ≡ noted found.old (maybe (part_faults (scope_of scope.now) kind) (option_map expr_of value.now))) }
+    ensures tree { OnOk result (StandBehind (scope_of scope.now) (set_before (scope_of scope.now) at (option_map expr_of value.now)) into.old into.new) }
+    ensures found { OnOk result (Notes (maybe (part_faults (scope_of scope.now) kind) (option_map expr_of value.now)) found.old found.new) }
 {
     match value {
         None => Ok(()),
@@ -120,8 +98,8 @@ fn local<'a>(
     kind: Kind,
     local: &'a LocalAt,
 ) -> Result<(), OutOfMemory>
-    ensures tree { OnOk result ((rest : to.Block) → stmts_in_front (map stmt_of into.new) rest ≡ stmts_in_front (map stmt_of into.old) (set_before (scope_of scope.old) (local_of local.now).at (local_of local.now).value rest)) }
-    ensures found { OnOk result (found.new ≡ noted found.old (local_name (scope_of scope.old) (local_of local.now).at (local_of local.now).name ++ maybe (part_faults (scope_of scope.old) kind) (local_of local.now).value)) }
+    ensures tree { OnOk result (StandBehind (scope_of scope.old) (set_before (scope_of scope.old) (local_of local.now).at (local_of local.now).value) into.old into.new) }
+    ensures found { OnOk result (Notes (local_name (scope_of scope.old) (local_of local.now).at (local_of local.now).name ++ maybe (part_faults (scope_of scope.old) kind) (local_of local.now).value) found.old found.new) }
     ensures scope { OnOk result (scope_of scope.new ≡ with_locals (scope_of scope.old) (declared_local kind (local_of local.now) ∷ [])) }
 {
     note_local(found, scope, local.at, &local.name);
@@ -139,8 +117,8 @@ fn locals<'a>(
     kind: Kind,
     locals: &'a [LocalAt],
 ) -> Result<(), OutOfMemory>
-    ensures tree { OnOk result ((rest : to.Block) → stmts_in_front (map stmt_of into.new) rest ≡ stmts_in_front (map stmt_of into.old) (locals_before (scope_of scope.old) kind (map local_of locals.now) rest)) }
-    ensures found { OnOk result (found.new ≡ noted found.old (locals_faults (scope_of scope.old) kind (map local_of locals.now))) }
+    ensures tree { OnOk result (StandBehind (scope_of scope.old) (locals_before (scope_of scope.old) kind (map local_of locals.now)) into.old into.new) }
+    ensures found { OnOk result (Notes (locals_faults (scope_of scope.old) kind (map local_of locals.now)) found.old found.new) }
     ensures scope { OnOk result (scope_of scope.new ≡ with_locals (scope_of scope.old) (map (declared_local kind) (map local_of locals.now))) }
 {
     for one in locals {
@@ -149,8 +127,8 @@ fn locals<'a>(
     Ok(())
 }
 
-/// A declaration: each local that has a first value is an assignment.
-fn declare<'a>(
+/// A declaration: each local that has a first value is an assignment, behind what was made before it.
+pub fn declare<'a>(
     alloc: Global,
     scope: &mut Scope<'a>,
     found: &mut Option<Fault>,
@@ -158,33 +136,11 @@ fn declare<'a>(
     kind: TypeAt,
     names: &'a [LocalAt],
 ) -> Result<(), OutOfMemory>
-    ensures tree { OnOk result ((rest : to.Block) → stmts_in_front (map stmt_of into.new) rest ≡ stmts_in_front (map stmt_of into.old) (locals_before (scope_of scope.old) (kind_of_type kind.name) (map local_of names.now) rest)) }
-    ensures found { OnOk result (found.new ≡ noted found.old (type_faults (scope_of scope.old) kind ++ locals_faults (scope_of scope.old) (kind_of_type kind.name) (map local_of names.now))) }
+    ensures tree { OnOk result (StandBehind (scope_of scope.old) (locals_before (scope_of scope.old) (kind_of_type kind.name) (map local_of names.now)) into.old into.new) }
+    ensures found { OnOk result (Notes (type_faults (scope_of scope.old) kind ++ locals_faults (scope_of scope.old) (kind_of_type kind.name) (map local_of names.now)) found.old found.new) }
     ensures scope { OnOk result (scope_of scope.new ≡ with_locals (scope_of scope.old) (map (declared_local (kind_of_type kind.name)) (map local_of names.now))) }
 {
     note_type(found, scope, kind);
     locals(alloc, scope, found, into, kind_of_type(kind.name), names)?;
     Ok(())
-}
-
-/// A statement that is a declaration, behind those that were made before it.
-pub fn declaration<'a>(
-    alloc: Global,
-    scope: &mut Scope<'a>,
-    found: &mut Option<Fault>,
-    stmt: &'a Stmt,
-    into: &mut Items<bound::Stmt>,
-) -> Result<(), OutOfMemory>
-    requires { form_of (seen.stmt_of stmt.now) ≡ form.Declaration }
-    ensures tree { OnOk result ((rest : to.Block) → stmts_in_front (map stmt_of into.new) rest ≡ stmts_in_front (map stmt_of into.old) (bound_before (scope_of scope.old) (seen.stmt_of stmt.now) rest)) }
-    ensures found { OnOk result (found.new ≡ noted found.old (stmt_faults (scope_of scope.old) (seen.stmt_of stmt.now))) }
-    ensures scope { OnOk result (scope_of scope.new ≡ with_locals (scope_of scope.old) (locals_in (seen.stmt_of stmt.now))) }
-{
-    match stmt {
-        Stmt::Declare { kind, locals, .. } => {
-            declare(alloc, scope, found, into, *kind, locals.as_slice())?;
-            Ok(())
-        }
-        _ => unreachable!(),
-    }
 }

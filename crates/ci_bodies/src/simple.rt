@@ -1,19 +1,17 @@
 //! Assignments, calls and RETURN.
-ghost use Rattle.std.specs.Prelude.{◌≡◌, [], ◌++◌, Option, None, Some, option_map, IfOk, OnOk};
+ghost use Rattle.std.specs.Prelude.{◌≡◌, ◌++◌, None, Some, option_map, IfOk, OnOk};
 ghost use Rattle.ci_tree.specs.Tree as tree;
-ghost use Rattle.ci_tree.specs.Seen.{expr_of, exprs_of, stmt_of};
-ghost use Rattle.ci_tree.specs.Bound as to;
-ghost use Rattle.ci_tree.specs.SeenBound as bound;
+ghost use Rattle.ci_tree.specs.Seen.{expr_of, exprs_of};
 ghost use Rattle.ci_names.specs.declared.fault.BindKind.TheVariants as kinds;
-ghost use Rattle.ci_names.specs.Fault.{noted};
-ghost use Rattle.ci_names.specs.Scopes.{meaning, callee, locals_in};
-ghost use Rattle.ci_names.specs.Kinds.{takes_of, kind_of};
-ghost use Rattle.ci_names.specs.Expressions.{broken, differ, call_faults, args_faults, expr_faults};
-ghost use Rattle.ci_names.specs.Statements.{target, assigned, return_faults, stmt_faults};
-ghost use Rattle.ci_names.specs.Binding.{bound_expr, bound_call, bound_assign, returned, bound_before};
+ghost use Rattle.ci_names.specs.Scopes.{meaning};
+ghost use Rattle.ci_names.specs.Kinds.{kind_of};
+ghost use Rattle.ci_names.specs.Expressions.{broken, differ, expr_faults};
+ghost use Rattle.ci_names.specs.Statements.{target, assigned, return_faults};
+ghost use Rattle.ci_names.specs.Binding.{bound_assign};
 ghost use Rattle.ci_scopes.specs.Seen.{scope_of};
-ghost use Rattle.ci_bodies.specs.declared.forms.Form.TheVariants as form;
-ghost use Rattle.ci_bodies.specs.Forms.{form_of};
+ghost use Rattle.ci_bodies.specs.Made.{stmt_in};
+ghost use Rattle.ci_bodies.specs.Walk.{assign_of, IsBound, NotesFaults};
+ghost use Rattle.ci_bodies.specs.Parts.{Notes, IsBoundExpr};
 
 use crate::calls::{callee_of, note_call, takes_of};
 use crate::expressions::{arguments, expression, indexed, part};
@@ -23,9 +21,19 @@ use crate::names::{note_plain, plain_kind, scalar_of};
 use crate::que_read::called_with;
 use ci_base::{Bytes, Kind, OutOfMemory};
 use ci_names::{BindKind, Fault};
-use ci_scopes::Scope;
-use ci_tree::{Expr, Stmt, bound};
+use ci_scopes::{Scope, boxed};
+use ci_tree::{Expr, bound};
 use std::alloc::Global;
+
+/// An assignment: the name that is set with its token, its index, if it has one, the token of `=`, and the value.
+#[derive(Clone, Copy)]
+pub struct Assignment<'a> {
+    pub at: u32,
+    pub name: &'a Bytes,
+    pub index: &'a Option<Expr>,
+    pub equals: u32,
+    pub value: &'a Expr,
+}
 
 /// A value that is to have the kind of another part, where both have one; else the fault is told at this token.
 pub fn alike(
@@ -36,8 +44,8 @@ pub fn alike(
     other: Option<Kind>,
     value: &Expr,
 ) -> Result<bound::Expr, OutOfMemory>
-    ensures tree { IfOk result (λ x. bound.expr_of x ≡ bound_expr (scope_of scope.now) (expr_of value.now)) }
-    ensures found { OnOk result (found.new ≡ noted found.old (broken (differ other (kind_of (scope_of scope.now) (expr_of value.now))) (scope_of scope.now) token kinds.KindsDiffer ++ expr_faults (scope_of scope.now) (expr_of value.now))) }
+    ensures tree { IfOk result (λ x. IsBoundExpr (scope_of scope.now) (expr_of value.now) x) }
+    ensures found { OnOk result (Notes (broken (differ other (kind_of (scope_of scope.now) (expr_of value.now))) (scope_of scope.now) token kinds.KindsDiffer ++ expr_faults (scope_of scope.now) (expr_of value.now)) found.old found.new) }
 {
     let mut inside = None;
     let (bound, given) = expression(alloc, scope, &mut inside, value)?;
@@ -57,19 +65,16 @@ fn assign_plain(
     alloc: Global,
     scope: &Scope,
     found: &mut Option<Fault>,
-    at: u32,
-    name: &Bytes,
-    equals: u32,
-    value: &Expr,
+    a: Assignment,
 ) -> Result<bound::Stmt, OutOfMemory>
-    ensures tree { IfOk result (λ x. bound.stmt_of x ≡ bound_assign (scope_of scope.now) at (meaning (scope_of scope.now) name.now) None (expr_of value.now)) }
-    ensures found { OnOk result (found.new ≡ noted found.old (expr_faults (scope_of scope.now) (target at name.now None)
-        ++ assigned (scope_of scope.now) equals (target at name.now None) (expr_of value.now) ++ expr_faults (scope_of scope.now) (expr_of value.now))) }
+    ensures tree { IfOk result (λ x. stmt_in (scope_of scope.now) x ≡ bound_assign (scope_of scope.now) a.entry.at (meaning (scope_of scope.now) a.entry.name.now) None (expr_of a.entry.value.now)) }
+    ensures found { OnOk result (Notes (expr_faults (scope_of scope.now) (target a.entry.at a.entry.name.now None)
+        ++ assigned (scope_of scope.now) a.entry.equals (target a.entry.at a.entry.name.now None) (expr_of a.entry.value.now) ++ expr_faults (scope_of scope.now) (expr_of a.entry.value.now)) found.old found.new) }
 {
-    let meaning = scope.meaning(name);
-    note_plain(found, scope, at, meaning);
-    let bound = alike(alloc, scope, found, equals, plain_kind(meaning), value)?;
-    Ok(bound::Stmt::assign(at, scalar_of(meaning), bound))
+    let meaning = scope.meaning(a.name);
+    note_plain(found, scope, a.at, meaning);
+    let bound = alike(alloc, scope, found, a.equals, plain_kind(meaning), a.value)?;
+    Ok(bound::Stmt::assign(a.at, scalar_of(meaning), bound))
 }
 
 /// An assignment to a name with an index.
@@ -77,19 +82,16 @@ fn assign_element(
     alloc: Global,
     scope: &Scope,
     found: &mut Option<Fault>,
-    at: u32,
-    name: &Bytes,
+    a: Assignment,
     index: &Expr,
-    equals: u32,
-    value: &Expr,
 ) -> Result<bound::Stmt, OutOfMemory>
-    ensures tree { IfOk result (λ x. bound.stmt_of x ≡ bound_assign (scope_of scope.now) at (meaning (scope_of scope.now) name.now) (Some (expr_of index.now)) (expr_of value.now)) }
-    ensures found { OnOk result (found.new ≡ noted found.old (expr_faults (scope_of scope.now) (target at name.now (Some (expr_of index.now)))
-        ++ assigned (scope_of scope.now) equals (target at name.now (Some (expr_of index.now))) (expr_of value.now) ++ expr_faults (scope_of scope.now) (expr_of value.now))) }
+    ensures tree { IfOk result (λ x. stmt_in (scope_of scope.now) x ≡ bound_assign (scope_of scope.now) a.entry.at (meaning (scope_of scope.now) a.entry.name.now) (Some (expr_of index.now)) (expr_of a.entry.value.now)) }
+    ensures found { OnOk result (Notes (expr_faults (scope_of scope.now) (target a.entry.at a.entry.name.now (Some (expr_of index.now)))
+        ++ assigned (scope_of scope.now) a.entry.equals (target a.entry.at a.entry.name.now (Some (expr_of index.now))) (expr_of a.entry.value.now) ++ expr_faults (scope_of scope.now) (expr_of a.entry.value.now)) found.old found.new) }
 {
-    let (array, index, kind) = indexed(alloc, scope, found, at, name, index)?;
-    let bound = alike(alloc, scope, found, equals, kind, value)?;
-    Ok(bound::Stmt::assign_element(at, array, index, bound))
+    let (array, index, kind) = indexed(alloc, scope, found, a.at, a.name, index)?;
+    let bound = alike(alloc, scope, found, a.equals, kind, a.value)?;
+    Ok(bound::Stmt::assign_element(a.at, array, boxed(alloc, index)?, bound))
 }
 
 /// An assignment.
@@ -97,19 +99,20 @@ pub fn assign(
     alloc: Global,
     scope: &Scope,
     found: &mut Option<Fault>,
-    at: u32,
-    name: &Bytes,
-    index: &Option<Expr>,
-    equals: u32,
-    value: &Expr,
+    a: Assignment,
 ) -> Result<bound::Stmt, OutOfMemory>
-    ensures tree { IfOk result (λ x. bound.stmt_of x ≡ bound_assign (scope_of scope.now) at (meaning (scope_of scope.now) name.now) (option_map expr_of index.now) (expr_of value.now)) }
-    ensures found { OnOk result (found.new ≡ noted found.old (expr_faults (scope_of scope.now) (target at name.now (option_map expr_of index.now))
-        ++ assigned (scope_of scope.now) equals (target at name.now (option_map expr_of index.now)) (expr_of value.now) ++ expr_faults (scope_of scope.now) (expr_of value.now))) }
+    ensures tree { IfOk result (λ x. IsBound (scope_of scope.now) (assign_of a.entry) x) }
+    ensures found { OnOk result (NotesFaults (scope_of scope.now) (assign_of a.entry) found.old found.new) }
 {
-    match index {
-        None => assign_plain(alloc, scope, found, at, name, equals, value),
-        Some(index) => assign_element(alloc, scope, found, at, name, index, equals, value),
+    match a.index {
+        None => {
+            let one = assign_plain(alloc, scope, found, a)?;
+            Ok(one)
+        }
+        Some(index) => {
+            let one = assign_element(alloc, scope, found, a, index)?;
+            Ok(one)
+        }
     }
 }
 
@@ -122,9 +125,8 @@ pub fn call(
     name: &Bytes,
     args: &[Expr],
 ) -> Result<bound::Stmt, OutOfMemory>
-    ensures tree { IfOk result (λ x. bound.stmt_of x ≡ to.call_of at (bound_call (scope_of scope.now) name.now (exprs_of args.now))) }
-    ensures found { OnOk result (found.new ≡ noted found.old (call_faults (scope_of scope.now) at name.now (exprs_of args.now)
-        ++ args_faults (scope_of scope.now) (takes_of (callee (scope_of scope.now) name.now)) (exprs_of args.now))) }
+    ensures tree { IfOk result (λ x. IsBound (scope_of scope.now) (tree.call_of at name.now (exprs_of args.now)) x) }
+    ensures found { OnOk result (NotesFaults (scope_of scope.now) (tree.call_of at name.now (exprs_of args.now)) found.old found.new) }
 {
     let called = scope.callee(name);
     note_call(found, scope, at, name, called, args);
@@ -141,8 +143,8 @@ fn returned(
     at: u32,
     value: &Expr,
 ) -> Result<bound::Expr, OutOfMemory>
-    ensures tree { IfOk result (λ x. bound.expr_of x ≡ bound_expr (scope_of scope.now) (expr_of value.now)) }
-    ensures found { OnOk result (found.new ≡ noted found.old (return_faults (scope_of scope.now) at (scope_of scope.now).gives (Some (expr_of value.now)))) }
+    ensures tree { IfOk result (λ x. IsBoundExpr (scope_of scope.now) (expr_of value.now) x) }
+    ensures found { OnOk result (Notes (return_faults (scope_of scope.now) at (scope_of scope.now).gives (Some (expr_of value.now))) found.old found.new) }
 {
     match scope.gives() {
         None => {
@@ -165,8 +167,8 @@ pub fn give_back(
     at: u32,
     value: &Option<Expr>,
 ) -> Result<bound::Stmt, OutOfMemory>
-    ensures tree { IfOk result (λ x. bound.stmt_of x ≡ to.return at (returned (scope_of scope.now) (option_map expr_of value.now))) }
-    ensures found { OnOk result (found.new ≡ noted found.old (return_faults (scope_of scope.now) at (scope_of scope.now).gives (option_map expr_of value.now))) }
+    ensures tree { IfOk result (λ x. IsBound (scope_of scope.now) (tree.return at (option_map expr_of value.now)) x) }
+    ensures found { OnOk result (NotesFaults (scope_of scope.now) (tree.return at (option_map expr_of value.now)) found.old found.new) }
 {
     match value {
         None => {
@@ -183,35 +185,5 @@ pub fn give_back(
             let bound = returned(alloc, scope, found, at, value)?;
             Ok(bound::Stmt::give_back(at, bound))
         }
-    }
-}
-
-/// An assignment, a call or RETURN.
-pub fn plain(
-    alloc: Global,
-    scope: &Scope,
-    found: &mut Option<Fault>,
-    stmt: &Stmt,
-) -> Result<bound::Stmt, OutOfMemory>
-    requires { form_of (stmt_of stmt.now) ≡ form.Plain }
-    ensures tree { IfOk result (λ x. (rest : to.Block) → bound_before (scope_of scope.now) (stmt_of stmt.now) rest ≡ to.then (bound.stmt_of x) rest) }
-    ensures found { OnOk result (found.new ≡ noted found.old (stmt_faults (scope_of scope.now) (stmt_of stmt.now))) }
-    ensures locals { locals_in (stmt_of stmt.now) ≡ [] }
-{
-    match stmt {
-        Stmt::Assign {
-            at,
-            name,
-            index,
-            equals,
-            value,
-        } => assign(alloc, scope, found, *at, name, index, *equals, value),
-        Stmt::CallOf { at, name, args } => call(alloc, scope, found, *at, name, args.as_slice()),
-        Stmt::Return { at, value } => give_back(alloc, scope, found, *at, value),
-        Stmt::Declare { .. }
-        | Stmt::If { .. }
-        | Stmt::While { .. }
-        | Stmt::For { .. }
-        | Stmt::Select { .. } => unreachable!(),
     }
 }

@@ -1,15 +1,17 @@
 -- What files declare, read one by one.
 use Rattle.std.proofs.Common.{◌≡◌, ◌∙◌, ℕ, ◌+◌, ◌≤◌, ◌<◌, List, [], ◌∷◌, ◌++◌, map, length, take, get_or, refl, sym, ap, arith, append_assoc, All, subst}
 use Rattle.std.proofs.lemmas.List.{map-append, take_more, length-take-le, length-map, append-nil}
+use Rattle.ci_base.specs.declared.bounds.TheConstants.{MOST_TOKENS}
 use Rattle.ci_tree.specs.Files.{IsFileTree}
 use Rattle.std.proofs.lemmas.List.Sums.{sum_by-cons}
+use Rattle.std.proofs.lemmas.List.Elements.{All-same, All-push}
 use Rattle.ci_tree.specs.declared.tree.Item as code_item
 use Rattle.ci_tree.specs.Nodes.{nodes, item_nodes}
 use Rattle.ci_tree.specs.Seen.{item_of, items_of}
 use Rattle.ci_tree.specs.Tree.{Item, function, variable}
 use Rattle.ci_names.specs.Declarations.{Declared, functions_in, variables_in, functions_from, variables_from, declared_in}
 use Rattle.std.proofs.Math.ListN.{get_or-map}
-use Rattle.ci_scopes.specs.Short.{IsShortItem}
+use Rattle.ci_tree.specs.Written.{IsShortItem}
 use Rattle.ci_scopes.specs.Stands.{with_items}
 
 functions_in-append : (file : ℕ) (xs ys : List Item) → functions_in file (xs ++ ys) ≡ functions_in file xs ++ functions_in file ys
@@ -83,7 +85,7 @@ length-le-nodes (x ∷ xs) = omega (arith, sum_by-cons item_nodes x xs, one_node
     one_node (variable at name global kind size first) = omega arith
 
 -- so it has at most so many
-pub few_items : (items : List code_item.Item) → IsFileTree (items_of items) → length items ≤ 262144
+pub few_items : (items : List code_item.Item) → IsFileTree (items_of items) → length items ≤ MOST_TOKENS
 few_items items is = omega (arith, length-map items item_of, length-le-nodes (items_of items), is.within)
 
 -- an item of short ones is short
@@ -91,3 +93,11 @@ pub short_at : (items : List code_item.Item) (i : ℕ) (x : code_item.Item) → 
 short_at items i x h e short =
     let within : i < length (items_of items) = omega (arith, length-map items item_of) in
     subst IsShortItem (get_or-map item_of items i x ∙ ap item_of (sym e)) (short i (item_of x) within)
+
+-- the trees so far were kept, and so is this one
+pub kept_more : (trees : List (List code_item.Item)) (i : ℕ) (tree items : List code_item.Item) → i < length trees → tree ≡ get_or trees i tree → items ≡ tree → IsFileTree (items_of items) →
+    All IsFileTree (map items_of (take i trees)) → All IsFileTree (map items_of (take (i + 1) trees))
+kept_more trees i tree items h is same kept so_far =
+    let more : map items_of (take (i + 1) trees) ≡ map items_of (take i trees) ++ items_of items ∷ [] =
+    ap (map items_of) (take_more trees i tree h) ∙ map-append items_of (take i trees) (get_or trees i tree ∷ []) ∙ ap (λ t. map items_of (take i trees) ++ items_of t ∷ []) (sym is ∙ sym same) in
+    All-same IsFileTree _ _ more (All-push IsFileTree (map items_of (take i trees)) (items_of items) so_far kept)

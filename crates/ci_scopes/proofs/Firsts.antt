@@ -1,9 +1,8 @@
 -- The first of a list that passes a test.
-use Rattle.std.proofs.Common.{◌≡◌, ◌∙◌, ℕ, ◌+◌, ◌<◌, Bool, true, false, cond, ◌||◌, List, [], ◌∷◌, ◌++◌, map, length, position, Some, None, is_some, take, get_or, refl, sym, ap, arith}
+use Rattle.std.proofs.Common.{◌≡◌, ◌∙◌, ℕ, ◌+◌, Bool, true, false, cond, ◌||◌, List, [], ◌∷◌, ◌++◌, length, position, Some, None, is_some, refl, sym, ap, arith}
 use Rattle.std.specs.List.{position_from, list_any}
 use Rattle.std.specs.Option.{option_or}
 use Rattle.std.proofs.lemmas.Iterator.Adapters.{position_from-zero}
-use Rattle.std.proofs.lemmas.List.{take_more, length-take-le}
 
 -- `position` by recursion
 pub position_is : {X : Type 0} (p : X → Bool) (xs : List X) → position p xs ≡ position_from p 0 xs
@@ -25,14 +24,6 @@ position-push p xs x =
     position_is p (xs ++ x ∷ []) ∙ position_from-push p 0 xs x ∙ ap (λ o. option_or o (cond (p x) (Some (0 + length xs)) None)) (sym (position_is p xs))
     ∙ ap (λ n. option_or (position p xs) (cond (p x) (Some n) None)) e
 
--- a test of what a function makes
-position_from-map : {X Y : Type 0} (p : Y → Bool) (f : X → Y) (i : ℕ) (xs : List X) → position_from p i (map f xs) ≡ position_from (λ x. p (f x)) i xs
-position_from-map p f i [] = refl
-position_from-map p f i (x ∷ xs) = ap (cond (p (f x)) (Some i)) (position_from-map p f (i + 1) xs)
-
-pub position-map : {X Y : Type 0} (p : Y → Bool) (f : X → Y) (xs : List X) → position p (map f xs) ≡ position (λ x. p (f x)) xs
-position-map p f xs = position_is p (map f xs) ∙ position_from-map p f 0 xs ∙ sym (position_is (λ x. p (f x)) xs)
-
 -- there is a first exactly where there is one
 position_from-any : {X : Type 0} (p : X → Bool) (i : ℕ) (xs : List X) → is_some (position_from p i xs) ≡ list_any p xs
 position_from-any p i [] = refl
@@ -44,9 +35,3 @@ position_from-any p i (x ∷ xs) = by (position_from-any p (i + 1) xs) (p x)
 
 pub position-any : {X : Type 0} (p : X → Bool) (xs : List X) → is_some (position p xs) ≡ list_any p xs
 position-any p xs = ap is_some (position_is p xs) ∙ position_from-any p 0 xs
-
--- a step of a loop over the list
-pub position-more : {X : Type 0} (p : X → Bool) (xs : List X) (i : ℕ) (d : X) → i < length xs → position p (take (i + 1) xs) ≡ option_or (position p (take i xs)) (cond (p (get_or xs i d)) (Some i) None)
-position-more p xs i d h =
-    let e : length (take i xs) ≡ i = length-take-le i xs (omega arith) in
-    ap (position p) (take_more xs i d h) ∙ position-push p (take i xs) (get_or xs i d) ∙ ap (λ n. option_or (position p (take i xs)) (cond (p (get_or xs i d)) (Some n) None)) e

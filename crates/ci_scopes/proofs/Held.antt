@@ -5,7 +5,7 @@ use Rattle.std.specs.Str.{str_eq_ignore_ascii_case}
 use Rattle.ci_base.specs.declared.value.Kind.{Kind}
 use Rattle.ci_names.specs.Scopes.{Local}
 use Rattle.ci_scopes.specs.Locals.{locals_from, is_local, AreLocals}
-use Rattle.ci_scopes.specs.Table.{noted}
+use Rattle.ci_scopes.specs.Table.{Noted, noted}
 use Rattle.ci_scopes.proofs.Tables.{number_of-noted}
 use Rattle.ci_scopes.proofs.Firsts.{position-push}
 
@@ -32,12 +32,12 @@ locals-push (y ∷ ys) [] n k h = absurd (omega arith)
 locals-push (y ∷ ys) (x ∷ xs) n k h = let e : length ys ≡ length xs = omega arith in ap (λ ls. record { name = y.now; kind = x } ∷ ls) (locals-push ys xs n k e)
 
 -- the table has it too
-pub held-push : (names : List (Bor (List ℕ))) (kinds : List Kind) (numbers : List (List ℕ × ℕ)) (n : Bor (List ℕ)) (k : Kind) → AreLocals names kinds numbers →
-    AreLocals (names ++ n ∷ []) (kinds ++ k ∷ []) (noted numbers n.now (length kinds))
+pub held-push : (names : List (Bor (List ℕ))) (kinds : List Kind) (numbers : List Noted) (n : Bor (List ℕ)) (k : Kind) → AreLocals names kinds numbers →
+    AreLocals (names ++ n ∷ []) (kinds ++ k ∷ []) (noted numbers None n.now (length kinds))
 held-push names kinds numbers n k h = record {
   paired = omega (arith, h.paired, length-append names (n ∷ []), length-append kinds (k ∷ []));
   first = λ name.
-      number_of-noted numbers n.now (length kinds) name
+      number_of-noted numbers None None n.now name (length kinds)
       ∙ ap (λ o. option_or o (cond (str_eq_ignore_ascii_case n.now name) (Some (length kinds)) None)) (h.first name)
       ∙ ap (λ i. option_or (position (is_local name) (locals_from names kinds)) (cond (str_eq_ignore_ascii_case n.now name) (Some i) None)) (sym (length_locals names kinds h.paired))
       ∙ sym (position-push (is_local name) (locals_from names kinds) (record { name = n.now; kind = k }))

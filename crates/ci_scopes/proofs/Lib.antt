@@ -2,7 +2,7 @@ mod Files
 mod Finding
 mod Firsts
 mod Held
-mod Kept
+pub mod Kept
 mod Lookups
 mod Named
 mod Owns

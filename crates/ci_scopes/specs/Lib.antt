@@ -1,5 +1,5 @@
-pub mod File
 pub mod GivenRows
+pub mod Listed
 pub mod Locals
 pub mod Names
 pub mod Project

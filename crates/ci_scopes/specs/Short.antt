@@ -1,23 +1,12 @@
--- Constants whose texts are short enough to be values.
-use Rattle.std.specs.Prelude.{◌≤◌, Option, Some, None, length, All}
-use Rattle.ci_tree.specs.declared.tree.Const.{Const}
-use Rattle.ci_tree.specs.declared.tree.Const.TheVariants as const
-use Rattle.ci_tree.specs.declared.tree.Param.{Param}
-use Rattle.ci_tree.specs.Tree.{Item, function, variable}
+-- Declarations whose texts are short enough to be values.
+use Rattle.std.specs.Prelude.{All}
+use Rattle.ci_tree.specs.Written.{IsShortFirst, IsShortParam}
+use Rattle.ci_names.specs.Declarations.{Function, Variable}
 
--- a text has at most 255 bytes
-abbrev pub IsShortConst : Const → Type 0
-IsShortConst (const.Number at value) = Unit {0}
-IsShortConst (const.Literal at text) = length text ≤ 255
+-- those of the parameters of a function
+abbrev pub IsShortFunction : Function → Type 0
+IsShortFunction f = All IsShortParam f.params
 
-abbrev pub IsShortFirst : Option Const → Type 0
-IsShortFirst None = Unit {0}
-IsShortFirst (Some first) = IsShortConst first
-
-abbrev pub IsShortParam : Param → Type 0
-IsShortParam p = IsShortFirst p.first
-
--- the parameters of a function are so
-abbrev pub IsShortItem : Item → Type 0
-IsShortItem (function at name private gives params body) = All IsShortParam params
-IsShortItem (variable at name global kind size first) = Unit {0}
+-- that of a variable
+abbrev pub IsShortVariable : Variable → Type 0
+IsShortVariable v = IsShortFirst v.first

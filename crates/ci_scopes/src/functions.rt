@@ -1,40 +1,40 @@
 //! The functions of a project, by number and by name.
-ghost use Rattle.std.specs.Prelude.{◌≡◌, ℕ, ◌++◌, [], ◌∷◌, List, ◌==◌, ◌&&◌, OnOk, All};
-ghost use Rattle.ci_tree.specs.Tree.{Block};
+ghost use Rattle.std.specs.Prelude.{◌≡◌, ◌++◌, [], ◌∷◌, List, OnOk, All};
 ghost use Rattle.ci_names.specs.Declarations.{Function};
-ghost use Rattle.ci_scopes.specs.Short.{IsShortParam};
+ghost use Rattle.ci_scopes.specs.Listed.{function_at};
+ghost use Rattle.ci_tree.specs.Written.{IsShortParam};
 
 use crate::called::Heading;
-use crate::heading::heading;
+use crate::memory::add;
 use crate::table::NameTable;
+use crate::values::heading;
 use ci_base::{Bytes, OutOfMemory};
-use ci_tree::{Param, TypeAt};
+use ci_tree::{Param, Stmt, TypeAt};
 use std::alloc::Global;
 
-/// A function as names mean it.
-#[derive(Drop)]
-pub(crate) struct FunctionAt<'a> {
+/// The declaration of a function.
+#[derive(Clone, Copy)]
+pub struct FunctionAt<'a> {
     /// The number of its file, counted from 0.
-    pub(crate) file: u32,
-    pub(crate) name: &'a Bytes,
-    pub(crate) private: bool,
-    pub(crate) heading: Heading,
+    pub file: u32,
+    /// Its name's token.
+    pub at: u32,
+    pub name: &'a Bytes,
+    pub private: bool,
+    pub gives: Option<TypeAt>,
+    pub params: &'a [Param],
+    pub body: &'a [Stmt],
 }
 
-impl<'a> FunctionAt<'a> {
-    /// Whether it is a PRIVATE one of this file.
-    pub(crate) fn is_private_in(&self, file: u32) -> bool
-        ensures { result ≡ (self.now.file == file && self.now.private) }
-    {
-        self.file == file && self.private
-    }
-}
-
-/// The functions by number, and the first that is seen everywhere of each name.
+/// The functions by number, and the first of each name: of those that are seen everywhere, of each file, and of the PRIVATE
+/// ones of each file.
 #[derive(Drop)]
 pub(crate) struct Functions<'a> {
     pub(crate) rows: Vec<FunctionAt<'a>>,
+    pub(crate) headings: Vec<Heading>,
     pub(crate) publics: NameTable<'a>,
+    pub(crate) own: NameTable<'a>,
+    pub(crate) privates: NameTable<'a>,
 }
 
 impl<'a> Functions<'a> {
@@ -46,36 +46,29 @@ impl<'a> Functions<'a> {
     {
         Functions {
             rows: Vec::new(alloc),
+            headings: Vec::new(alloc),
             publics: NameTable::empty(alloc),
+            own: NameTable::empty(alloc),
+            privates: NameTable::empty(alloc),
         }
     }
 
-    /// Adds the function that is declared so.
-    pub(crate) fn add(
-        &mut self,
-        alloc: Global,
-        file: u32,
-        name: &'a Bytes,
-        private: bool,
-        gives: &Option<TypeAt>,
-        params: &[Param],
-    ) -> Result<(), OutOfMemory>
-        requires { All IsShortParam params.now }
-        ensures { OnOk result ((fs : List Function) (at : ℕ) (body : Block) → IsFunctions self.old fs →
-            IsFunctions self.new (fs ++ record { file = file; at = at; name = name.now; private = private; gives = gives.now; params = params.now; body = body } ∷ [])) }
+    /// Adds the function.
+    pub(crate) fn add(&mut self, alloc: Global, function: FunctionAt<'a>) -> Result<(), OutOfMemory>
+        requires { All IsShortParam function.params.now }
+        ensures { OnOk result ((fs : List Function) → IsFunctions self.old fs → IsFunctions self.new (fs ++ function_at function.entry ∷ [])) }
     {
-        let heading = heading(alloc, params, gives)?;
+        let heading = heading(alloc, function.params, &function.gives)?;
+        let number = self.rows.len();
+        let name = function.name.bytes();
+        let file = Some(function.file);
         self.publics
-            .note_where(!private, name.bytes(), self.rows.len())?;
-        let row = FunctionAt {
-            file,
-            name,
-            private,
-            heading,
-        };
-        match self.rows.push(row) {
-            Ok(()) => Ok(()),
-            Err(_) => Err(OutOfMemory),
-        }
+            .note_where(!function.private, None, name, number)?;
+        self.own.note(file, name, number)?;
+        self.privates
+            .note_where(function.private, file, name, number)?;
+        add(&mut self.rows, function)?;
+        add(&mut self.headings, heading)?;
+        Ok(())
     }
 }

@@ -9,6 +9,7 @@ ghost use Rattle.ci_scopes.specs.Values.{taken_of, called_of};
 ghost use Rattle.ci_scopes.specs.Spelling.{private_given, shared_given};
 
 use crate::called::{Called, Heading, Taken};
+use crate::memory::{add, push};
 use crate::spelling;
 use ci_base::{Kind, OutOfMemory, PrivateName, SharedName, Text, Value};
 use ci_tree::bound::Callee;
@@ -29,9 +30,7 @@ fn by_values(alloc: Global, kinds: &[Kind]) -> Result<Items<Taken>, OutOfMemory>
 {
     let mut takes = Items::new(alloc);
     for kind in kinds {
-        if takes.push(Taken::ByValue { kind: *kind }).is_err() {
-            return Err(OutOfMemory);
-        }
+        push(&mut takes, Taken::ByValue { kind: *kind })?;
     }
     Ok(takes)
 }
@@ -45,10 +44,8 @@ fn task_hnd_takes(alloc: Global) -> Result<Items<Taken>, OutOfMemory>
         kind: Kind::Str,
         default: Value::Str(Text::empty()),
     };
-    match takes.push(name) {
-        Ok(()) => Ok(takes),
-        Err(_) => Err(OutOfMemory),
-    }
+    push(&mut takes, name)?;
+    Ok(takes)
 }
 
 /// What QueRead takes: it sets its second and third argument.
@@ -120,9 +117,7 @@ impl GivenAt {
         ensures { OnOk result (map given_row rows.new.items ≡ map given_row rows.old.items ++ map private_given names.now) }
     {
         for of in names {
-            if rows.push(GivenAt::private(alloc, *of)?).is_err() {
-                return Err(OutOfMemory);
-            }
+            add(rows, GivenAt::private(alloc, *of)?)?;
         }
         Ok(())
     }
@@ -136,9 +131,7 @@ impl GivenAt {
         ensures { OnOk result (map given_row rows.new.items ≡ map given_row rows.old.items ++ map shared_given names.now) }
     {
         for of in names {
-            if rows.push(GivenAt::shared(alloc, *of)?).is_err() {
-                return Err(OutOfMemory);
-            }
+            add(rows, GivenAt::shared(alloc, *of)?)?;
         }
         Ok(())
     }

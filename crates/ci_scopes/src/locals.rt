@@ -58,7 +58,7 @@ impl<'a> Locals<'a> {
     pub(crate) fn number(&self, name: &[u8]) -> Option<usize>
         ensures { result ≡ position (is_local name.now) self.now }
     {
-        self.numbers.get(name)
+        self.numbers.get(None, name)
     }
 
     /// Adds a local at the end. Where there is no memory for it, nothing changes.
@@ -74,7 +74,7 @@ impl<'a> Locals<'a> {
             let _ = self.names.pop();
             return Err(OutOfMemory);
         }
-        match self.numbers.note(name.bytes(), number) {
+        match self.numbers.note(None, name.bytes(), number) {
             Ok(()) => Ok(()),
             Err(OutOfMemory) => {
                 let _ = self.names.pop();

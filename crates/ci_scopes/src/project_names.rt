@@ -1,11 +1,16 @@
-//! What all files declare, by number and by name.
-ghost use Rattle.std.specs.Prelude.{◌≡◌, ◌≤◌, length, map, option_map, position, IfOk};
+//! What all files declare, by number, and what a name means in each file, outside all functions.
+ghost use Rattle.std.specs.Prelude.{◌≡◌, ◌≤◌, ◌&&◌, length, map, option_map, position, IfOk, OnOk, All};
+ghost use Rattle.std.specs.List.{list_any};
+ghost use Rattle.ci_base.specs.declared.bounds.TheConstants.{MOST_FILES};
+ghost use Rattle.ci_tree.specs.Files.{IsFileTree};
 ghost use Rattle.ci_tree.specs.Seen.{items_of};
-ghost use Rattle.ci_names.specs.Declarations.{declared_in, is_public, called_function};
+ghost use Rattle.ci_names.specs.Declarations.{declared_in, is_public, is_of_file, called_function, function_named, function_number, variable_number};
 ghost use Rattle.ci_names.specs.Given.{given_named};
-ghost use Rattle.ci_names.specs.Scopes.{variable_at};
+ghost use Rattle.ci_names.specs.Scopes as scopes;
+ghost use Rattle.ci_names.specs.Scopes.{variable_named};
+ghost use Rattle.ci_scopes.specs.Listed.{function_at, variable_at};
 ghost use Rattle.ci_scopes.specs.Values.{called_of, meaning_of};
-ghost use Rattle.ci_scopes.specs.Stands.{function_row, variable_row, declared_function, declared_variables, is_global};
+ghost use Rattle.ci_scopes.specs.Stands.{is_global, is_own_variable};
 
 use crate::called::Called;
 use crate::functions::{FunctionAt, Functions};
@@ -20,8 +25,8 @@ use sqlite_items::at;
 use std::alloc::Global;
 use std::marker::Model;
 
-/// What all files declare: what each function takes and gives and what each variable means, by number, and the first function
-/// and variable of each name that are seen everywhere. Contracts see the items of the files.
+/// What all files declare: the functions and variables by number, and the first of each name, of those that are seen everywhere
+/// and of those of each file. In names letter case has no meaning. Contracts see the items of the files.
 #[derive(Drop)]
 pub struct ProjectNames<'a> {
     trees: &'a [FileTree],
@@ -54,8 +59,9 @@ impl<'a> ProjectNames<'a> {
 
     /// What the files declare.
     pub fn of(alloc: Global, trees: &'a [FileTree]) -> Result<ProjectNames<'a>, OutOfMemory>
-        requires { length trees.now ≤ 64 }
-        ensures { IfOk result (λ names. declared_of names ≡ declared_in (map items_of trees.now)) }
+        requires { length trees.now ≤ MOST_FILES }
+        ensures declared { IfOk result (λ names. declared_of names ≡ declared_in (map items_of trees.now)) }
+        ensures kept { OnOk result (All IsFileTree (map items_of trees.now)) }
     {
         let Rows {
             functions,
@@ -70,57 +76,120 @@ impl<'a> ProjectNames<'a> {
         })
     }
 
-    /// The number of the first function of this name that is seen everywhere; letter case has no meaning.
-    pub fn first_public(&self, name: &Bytes) -> Option<usize>
-        ensures { result ≡ position (is_public name.now) (declared_of self.now).functions }
-    {
-        self.functions.publics.get(name.bytes())
-    }
-
-    /// The number of the first GLOBAL variable of this name; letter case has no meaning.
-    pub fn first_global(&self, name: &Bytes) -> Option<usize>
-        ensures { result ≡ position (is_global name.now) (declared_of self.now).variables }
-    {
-        self.variables.globals.get(name.bytes())
-    }
-
-    /// The functions by number.
-    pub(crate) fn functions(&self) -> &[FunctionAt<'a>]
-        ensures { map function_row result.now ≡ map declared_function (declared_of self.now).functions }
+    /// The functions by number: in the order of files and places.
+    pub fn functions(&self) -> &[FunctionAt<'a>]
+        ensures { map function_at result.now ≡ (declared_of self.now).functions }
     {
         self.functions.rows.as_slice()
     }
 
-    /// The variables by number.
-    pub(crate) fn variables(&self) -> &[VariableAt<'a>]
-        ensures { map variable_row result.now ≡ declared_variables (declared_of self.now).variables }
+    /// The variables by number: in the order of files and places.
+    pub fn variables(&self) -> &[VariableAt<'a>]
+        ensures { map variable_at result.now ≡ (declared_of self.now).variables }
     {
         self.variables.rows.as_slice()
     }
 
+    /// The number of the first function of this name that is seen everywhere.
+    pub fn first_public(&self, name: &Bytes) -> Option<usize>
+        ensures { result ≡ position (is_public name.now) (declared_of self.now).functions }
+    {
+        self.functions.publics.get(None, name.bytes())
+    }
+
+    /// The number of the first function of this name in the file.
+    pub fn first_function(&self, file: u32, name: &Bytes) -> Option<usize>
+        ensures { result ≡ position (is_of_file file name.now) (declared_of self.now).functions }
+    {
+        self.functions.own.get(Some(file), name.bytes())
+    }
+
+    /// Whether the file has a PRIVATE function of this name.
+    fn has_private(&self, file: u32, name: &Bytes) -> bool
+        ensures { result ≡ list_any (λ f. is_of_file file name.now f && f.private) (declared_of self.now).functions }
+    {
+        self.functions
+            .privates
+            .get(Some(file), name.bytes())
+            .is_some()
+    }
+
+    /// The number of the first GLOBAL variable of this name.
+    pub fn first_global(&self, name: &Bytes) -> Option<usize>
+        ensures { result ≡ position (is_global name.now) (declared_of self.now).variables }
+    {
+        self.variables.globals.get(None, name.bytes())
+    }
+
+    /// The number of the first variable of this name in the file.
+    pub fn first_variable(&self, file: u32, name: &Bytes) -> Option<usize>
+        ensures { result ≡ position (is_own_variable file name.now) (declared_of self.now).variables }
+    {
+        self.variables.own.get(Some(file), name.bytes())
+    }
+
+    /// The number of the function that the name means in the file.
+    fn function_number(&self, file: u32, name: &Bytes) -> Option<usize>
+        ensures { result ≡ function_number (declared_of self.now).functions file name.now }
+    {
+        if self.has_private(file, name) {
+            self.first_function(file, name)
+        } else {
+            self.first_public(name)
+        }
+    }
+
+    /// The number of the variable that the name means in the file.
+    fn variable_number(&self, file: u32, name: &Bytes) -> Option<usize>
+        ensures { result ≡ variable_number (declared_of self.now).variables file name.now }
+    {
+        match self.first_variable(file, name) {
+            Some(number) => Some(number),
+            None => self.first_global(name),
+        }
+    }
+
     /// What the function of this number is called for.
-    pub fn called(&self, number: usize) -> Option<Called<'_>>
+    fn called(&self, number: usize) -> Option<Called<'_>>
         ensures { option_map called_of result ≡ called_function (declared_of self.now).functions number }
     {
-        let row = at(self.functions.rows.as_slice(), number)?;
+        let heading = at(self.functions.headings.as_slice(), number)?;
         Some(Called {
             callee: Callee::Function(number),
-            heading: &row.heading,
+            heading,
         })
     }
 
     /// What the variable of this number means.
-    pub fn variable(&self, number: usize) -> Option<Meaning>
-        ensures { option_map meaning_of result ≡ variable_at (declared_of self.now).variables number }
+    fn variable_of(&self, number: usize) -> Option<Meaning>
+        ensures { option_map meaning_of result ≡ scopes.variable_at (declared_of self.now).variables number }
     {
-        let row = at(self.variables.rows.as_slice(), number)?;
-        Some(row.meaning)
+        let meaning = at(self.variables.meanings.as_slice(), number)?;
+        Some(*meaning)
     }
 
-    /// What the name means of the functions that every project has; letter case has no meaning.
+    /// What the name means of the functions that every project has.
     pub fn given(&self, name: &Bytes) -> Option<Called<'_>>
         ensures { option_map called_of result ≡ given_named name.now }
     {
         GivenAt::find(self.given.as_slice(), name.bytes())
+    }
+
+    /// What the name means in the file that is called.
+    pub fn function(&self, file: u32, name: &Bytes) -> Option<Called<'_>>
+        ensures { option_map called_of result ≡ function_named (declared_of self.now) file name.now }
+    {
+        match self.function_number(file, name) {
+            Some(number) => self.called(number),
+            None => self.given(name),
+        }
+    }
+
+    /// The variable that the name means in the file.
+    pub fn variable(&self, file: u32, name: &Bytes) -> Option<Meaning>
+        ensures { option_map meaning_of result ≡ variable_named (declared_of self.now) file name.now }
+    {
+        let number = self.variable_number(file, name)?;
+        self.variable_of(number)
     }
 }

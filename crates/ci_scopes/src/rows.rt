@@ -1,11 +1,13 @@
 //! What the files declare, read item by item.
-ghost use Rattle.std.specs.Prelude.{◌≡◌, ℕ, ◌+◌, ◌*◌, ◌≤◌, ◌<◌, ◌^◌, [], ◌∷◌, OnOk, IfOk, length, map, All};
+ghost use Rattle.std.specs.Prelude.{◌≡◌, ◌+◌, ◌*◌, ◌≤◌, [], ◌∷◌, OnOk, IfOk, length, map, All};
+ghost use Rattle.ci_base.specs.declared.bounds.TheConstants.{MOST_FILES, MOST_CELLS};
+ghost use Rattle.ci_tree.specs.Files.{IsFileTree};
 ghost use Rattle.ci_tree.specs.Seen.{item_of, items_of};
 ghost use Rattle.ci_names.specs.Declarations.{Declared, declared_in};
-ghost use Rattle.ci_scopes.specs.Short.{IsShortItem};
+ghost use Rattle.ci_tree.specs.Written.{IsShortItem};
 
-use crate::functions::Functions;
-use crate::variables::Variables;
+use crate::functions::{FunctionAt, Functions};
+use crate::variables::{VariableAt, Variables};
 use ci_base::OutOfMemory;
 use ci_tree::{FileTree, Item};
 use std::alloc::Global;
@@ -26,26 +28,45 @@ impl<'a> Rows<'a> {
         requires room { HasRoom 1 self.old }
         requires short { IsShortItem (item_of item.now) }
         ensures stands { OnOk result ((d : Declared) → IsRows self.old d → IsRows self.new (with_items file d (item_of item.now ∷ []))) }
-        ensures cells { OnOk result (self.new.variables.cells ≤ self.old.variables.cells + 100000) }
+        ensures cells { OnOk result (self.new.variables.cells ≤ self.old.variables.cells + MOST_CELLS) }
         ensures arrays { OnOk result (self.new.variables.arrays ≤ self.old.variables.arrays + 1) }
     {
         match item {
             Item::Function {
+                at,
                 name,
                 private,
                 gives,
                 params,
-                ..
-            } => self
-                .functions
-                .add(alloc, file, name, *private, gives, params.as_slice()),
+                body,
+            } => self.functions.add(
+                alloc,
+                FunctionAt {
+                    file,
+                    at: *at,
+                    name,
+                    private: *private,
+                    gives: *gives,
+                    params: params.as_slice(),
+                    body: body.as_slice(),
+                },
+            ),
             Item::Variable {
+                at,
                 name,
                 global,
                 kind,
                 length,
-                ..
-            } => self.variables.add(file, name, *global, *kind, length),
+                first,
+            } => self.variables.add(VariableAt {
+                file,
+                at: *at,
+                name,
+                global: *global,
+                kind: *kind,
+                length: *length,
+                first,
+            }),
         }
     }
 
@@ -54,7 +75,7 @@ impl<'a> Rows<'a> {
         requires room { HasRoom (length items.now) self.old }
         requires short { All IsShortItem (items_of items.now) }
         ensures stands { OnOk result ((d : Declared) → IsRows self.old d → IsRows self.new (with_items file d (items_of items.now))) }
-        ensures cells { OnOk result (self.new.variables.cells ≤ self.old.variables.cells + 100000 * length items.now) }
+        ensures cells { OnOk result (self.new.variables.cells ≤ self.old.variables.cells + MOST_CELLS * length items.now) }
         ensures arrays { OnOk result (self.new.variables.arrays ≤ self.old.variables.arrays + length items.now) }
     {
         for item in items {
@@ -65,8 +86,9 @@ impl<'a> Rows<'a> {
 
     /// What these files declare.
     pub(crate) fn of(alloc: Global, trees: &'a [FileTree]) -> Result<Rows<'a>, OutOfMemory>
-        requires { length trees.now ≤ 64 }
-        ensures { IfOk result (λ rows. IsRows rows (declared_in (map items_of trees.now))) }
+        requires { length trees.now ≤ MOST_FILES }
+        ensures rows { IfOk result (λ rows. IsRows rows (declared_in (map items_of trees.now))) }
+        ensures kept { OnOk result (All IsFileTree (map items_of trees.now)) }
     {
         let mut rows = Rows {
             functions: Functions::empty(alloc),

@@ -3,13 +3,13 @@ ghost use Rattle.std.specs.Prelude.{◌≡◌, ◌++◌, [], ◌∷◌, length, 
 ghost use Rattle.std.specs.List.{list_any};
 ghost use Rattle.std.specs.Str.{str_eq_ignore_ascii_case};
 ghost use Rattle.ci_names.specs.Scopes.{Local, local_named, meaning, callee, with_locals};
-ghost use Rattle.ci_scopes.specs.File.{declared_for, file_of};
+ghost use Rattle.ci_scopes.specs.Project.{declared_of};
 ghost use Rattle.ci_scopes.specs.Values.{meaning_of, called_of};
 
 use crate::called::Called;
-use crate::file_names::FileNames;
 use crate::locals::Locals;
 use crate::meaning::Meaning;
+use crate::project_names::ProjectNames;
 use ci_base::{Bytes, Kind, OutOfMemory};
 use ci_tree::bound::Scalar;
 use sqlite_items::at;
@@ -18,7 +18,8 @@ use std::alloc::Global;
 /// Where a part of a function stands: the file, the kind that the function gives, and the locals that hold there.
 #[derive(Drop)]
 pub struct Scope<'a> {
-    names: &'a FileNames<'a>,
+    names: &'a ProjectNames<'a>,
+    file: u32,
     gives: Option<Kind>,
     locals: Locals<'a>,
 }
@@ -27,12 +28,19 @@ pub struct Scope<'a> {
 impl<'a> Scope<'a> {
     ghost use Rattle.ci_scopes.specs.Seen.{scope_of};
 
-    /// A place in this file without locals, in a function that gives this kind, if any. Takes no memory.
-    pub fn of(alloc: Global, names: &'a FileNames<'a>, gives: Option<Kind>) -> Scope<'a>
-        ensures { scope_of result ≡ record { declared = declared_for names.now; file = file_of names.now; gives = gives; locals = [] } }
+    /// A place without locals in the file of this number, counted from 0, in a function that gives this kind, if any. Takes no
+    /// memory.
+    pub fn of(
+        alloc: Global,
+        names: &'a ProjectNames<'a>,
+        file: u32,
+        gives: Option<Kind>,
+    ) -> Scope<'a>
+        ensures { scope_of result ≡ record { declared = declared_of names.now; file = file; gives = gives; locals = [] } }
     {
         Scope {
             names,
+            file,
             gives,
             locals: Locals::empty(alloc),
         }
@@ -42,7 +50,7 @@ impl<'a> Scope<'a> {
     pub fn file(&self) -> u32
         ensures { result ≡ (scope_of self.now).file }
     {
-        self.names.file()
+        self.file
     }
 
     /// The kind that the function gives, if any.
@@ -80,10 +88,10 @@ impl<'a> Scope<'a> {
         if let Some(local) = self.local(name) {
             return local;
         }
-        if let Some(variable) = self.names.variable(name) {
+        if let Some(variable) = self.names.variable(self.file, name) {
             return variable;
         }
-        match self.names.function(name) {
+        match self.names.function(self.file, name) {
             Some(_) => Meaning::OnlyFunction,
             None => Meaning::Nothing,
         }
@@ -105,7 +113,7 @@ impl<'a> Scope<'a> {
     pub fn callee(&self, name: &Bytes) -> Option<Called<'a>>
         ensures { option_map called_of result ≡ callee (scope_of self.now) name.now }
     {
-        self.names.function(name)
+        self.names.function(self.file, name)
     }
 
     /// From here on this local holds too. Where there is no memory for it, nothing changes.

@@ -7,7 +7,7 @@ use Rattle.ci_names.specs.Scopes.{Scope, param_local}
 use Rattle.ci_names.specs.Faults.{has_default, param_faults}
 use Rattle.ci_names.specs.Binding.{bound_param}
 use Rattle.ci_scopes.specs.Seen.{scope_of}
-use Rattle.ci_binder.specs.Short.{IsShortParam}
+use Rattle.ci_tree.specs.Written.{IsShortParam}
 use Rattle.ci_binder.proofs.Steps.{next, holds, push_same, noted_more}
 use Rattle.ci_binder.proofs.Told.{param_in, locals_more, default_more}
 use Rattle.ci_binder.proofs.parameters.bound_params.Goals as goal
@@ -28,7 +28,7 @@ loop-param-preserved c =
     record {
       value = push_same param_of bound_param c.loop-param.all c.push.new.items c.bound_param.result (take i ps) (take (i + 1) ps) p c.in_ok-push.ensures c.loop-param.invariant.value c.bound_param.ensures more;
       faults = noted_more c.args.found.now c.loop-param.found c.note_param.new.found (param_faults s) (take i ps) (take (i + 1) ps) p c.loop-param.invariant.faults one more;
-      scope = locals_more s here (scope_of c.declare.new.self) (take i ps) (take (i + 1) ps) p c.kind_of.result c.loop-param.invariant.scope c.kind_of.ensures c.in_ok-declare.ensures.ok more;
+      scope = locals_more s here (scope_of c.declare.new.self) (take i ps) (take (i + 1) ps) p c.kind_of_type.result c.loop-param.invariant.scope c.kind_of_type.ensures c.in_ok-declare.ensures.ok more;
       default =
           ap (λ b. b || c.is_some-behind_default.result) c.loop-param.invariant.default
           ∙ ap (λ b. list_any has_default (take i ps) || b) c.is_some-behind_default.ensures

@@ -5,11 +5,15 @@ use Rattle.ci_base.specs.declared.value.Kind.TheVariants.{Int}
 use Rattle.ci_names.specs.declared.fault.BindKind.TheVariants as kinds
 use Rattle.ci_names.specs.Fault.{noted}
 use Rattle.ci_names.specs.Kinds.{kind_of}
+use Rattle.ci_names.specs.Binding.{heads_in, bound_expr}
+use Rattle.ci_tree.specs.Bound as to
+use Rattle.ci_bodies.specs.Made.{expr_in, links_in}
+use Rattle.ci_bodies.specs.Links.{bound_link}
 use Rattle.ci_names.specs.Expressions.{broken, differs, wants_kind, expr_faults, links_faults, int_operand, clash, operation}
 use Rattle.ci_tree.specs.Operators.{joins}
 use Rattle.ci_tree.specs.Tree as tree
 use Rattle.ci_tree.specs.declared.tree.Expr.{the_lemmas}
-use Rattle.ci_tree.specs.Seen.{expr_of, links_of}
+use Rattle.ci_tree.specs.Seen.{expr_of, link_of, links_of}
 use Rattle.ci_scopes.specs.Seen.{scope_of, taken_of}
 use Rattle.ci_bodies.proofs.Links.{links_more, links_end}
 use Rattle.ci_bodies.proofs.Arguments.{args_more, args_end}
@@ -82,3 +86,55 @@ pub links-returns-clause-tree : goal.links-returns-clause-tree
 links-returns-clause-tree t c =
     (links_end (scope_of c.args.scope.now) c.loop-member.links c.loop-member.kind c.loop-member.found (drop c.loop-member.member-index c.args.rest.now) c.args.left c.args.found.now c.args.rest.now
     (drop_all c.loop-member.member-index c.args.rest.now c.loop-member-test.false) c.loop-member.invariant).0
+
+pub arguments-returns-clause-tree : goal.arguments-returns-clause-tree
+arguments-returns-clause-tree t c =
+    (args_end (scope_of c.args.scope.now) c.loop-arg.bound c.loop-arg.fit c.loop-arg.found (map taken_of c.loop-arg.left.now) (drop c.loop-arg.arg-index c.args.args.now) (map taken_of c.args.takes.now) c.args.found.now c.args.args.now
+    (drop_all c.loop-arg.arg-index c.args.args.now c.loop-arg-test.false) c.loop-arg.invariant).0
+
+pub call_value-returns-clause-tree : goal.call_value-returns-clause-tree
+call_value-returns-clause-tree t c =
+    let heads = heads_in (scope_of c.args.scope.now).declared in
+    let made = c.called.ensures heads in
+    let call = c.in_ok-call.ensures heads in
+    search (rules, made, call)
+
+pub element-returns-clause-tree : goal.element-returns-clause-tree
+element-returns-clause-tree t c = let made = c.element.ensures (heads_in (scope_of c.args.scope.now).declared) in search (rules, made)
+
+pub unary-returns-clause-tree : goal.unary-returns-clause-tree
+unary-returns-clause-tree t c = let made = c.unary.ensures (heads_in (scope_of c.args.scope.now).declared) in search (rules, made)
+
+pub link-returns-in-Hashes-clause-tree : goal.link-returns-in-Hashes-clause-tree
+link-returns-in-Hashes-clause-tree t c =
+    let s = scope_of c.args.scope.now in
+    let seen : link_of c.args.member.now ≡ tree.hashes_link c.in-Hashes.at c.in-Hashes.count = search (rules, the_lemmas) in
+    c.of_hashes.ensures (heads_in s.declared) ∙ ap (bound_link s) (sym seen)
+
+pub link-returns-in_ok-bound-in-Operand-clause-tree : goal.link-returns-in_ok-bound-in-Operand-clause-tree
+link-returns-in_ok-bound-in-Operand-clause-tree t c =
+    let s = scope_of c.args.scope.now in
+    let o = c.in-Operand in
+    let seen : link_of c.args.member.now ≡ tree.operand_link o.at o.operator (expr_of o.operand) = search (rules, the_lemmas) in
+    c.of_operand.ensures (heads_in s.declared) ∙ ap (to.operand_link o.operator) c.in_ok-bound-in-Operand.ensures.tree ∙ ap (bound_link s) (sym seen)
+
+pub expression-returns-in-Number-clause-tree : goal.expression-returns-in-Number-clause-tree
+expression-returns-in-Number-clause-tree t c = let made = c.number.ensures (heads_in (scope_of c.args.scope.now).declared) in search (rules, the_lemmas, made)
+
+pub expression-returns-in_ok-copy-in-Literal-clause-tree : goal.expression-returns-in_ok-copy-in-Literal-clause-tree
+expression-returns-in_ok-copy-in-Literal-clause-tree t c =
+    let s = scope_of c.args.scope.now in
+    let seen : expr_of c.args.e.now ≡ tree.expr c.args.e.now.start c.args.e.now.at (tree.literal c.in-Literal.text) = search (rules, the_lemmas) in
+    let made = c.literal.ensures (heads_in s.declared) in
+    made ∙ ap to.literal (c.in_ok-copy-in-Literal.ensures ∙ c.bytes.ensures) ∙ ap (bound_expr s) (sym seen)
+
+pub expression-returns-in_ok-boxed-in-Chain-clause-tree : goal.expression-returns-in_ok-boxed-in-Chain-clause-tree
+expression-returns-in_ok-boxed-in-Chain-clause-tree t c =
+    let s = scope_of c.args.scope.now in
+    let first = expr_of c.get-in-Chain.result.now in
+    let rest = links_of c.as_slice-in-Chain.result.now in
+    let seen : expr_of c.args.e.now ≡ tree.expr c.args.e.now.start c.args.e.now.at (tree.chain first rest) = search (rules, the_lemmas) in
+    c.chain.ensures (heads_in s.declared)
+    ∙ ap (λ x. to.chain (expr_in s x) (links_in s c.in_ok-links-in-Chain.links)) c.in_ok-boxed-in-Chain.ensures
+    ∙ (λ i. to.chain (c.in_ok-first-in-Chain.ensures.tree i) (c.in_ok-links-in-Chain.ensures.tree i))
+    ∙ ap (bound_expr s) (sym seen)

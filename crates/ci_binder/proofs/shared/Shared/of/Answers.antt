@@ -4,8 +4,8 @@ use Rattle.std.proofs.lemmas.List.Concat.{flat_map-append}
 use Rattle.ci_tree.specs.SeenBound.{cell_of}
 use Rattle.ci_names.specs.Binding.{bound_cells, bound_array, bound_global}
 use Rattle.ci_names.proofs.Meant.{length_cells}
-use Rattle.ci_binder.specs.Listed.{variable_at}
-use Rattle.ci_binder.specs.Short.{IsShortVariable}
+use Rattle.ci_scopes.specs.Listed.{variable_at}
+use Rattle.ci_scopes.specs.Short.{IsShortVariable}
 use Rattle.ci_binder.proofs.Steps.{next, holds, listed_at, each_more}
 use Rattle.ci_binder.proofs.shared.Shared.of.Goals as goal
 

@@ -2,7 +2,7 @@ use Rattle.std.proofs.Common.{◌≡◌, [], map, take, flat_map}
 use Rattle.ci_tree.specs.SeenBound.{cell_of, array_of, global_of}
 use Rattle.ci_names.specs.Declarations.{each_behind}
 use Rattle.ci_names.specs.Binding.{bound_cells, bound_array, bound_global}
-use Rattle.ci_binder.specs.Listed.{variable_at}
+use Rattle.ci_scopes.specs.Listed.{variable_at}
 use Rattle.ci_binder.proofs.shared.Shared.of.Given as goal
 
 abbrev pub invariant-loop-v : goal.invariant-loop-v

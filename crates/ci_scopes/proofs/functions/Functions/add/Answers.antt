@@ -1,11 +1,11 @@
-use Rattle.std.proofs.Common.{◌∙◌, cond, not}
-use Rattle.ci_scopes.specs.Table.{noted}
+use Rattle.std.proofs.Common.{◌∙◌}
+use Rattle.ci_scopes.specs.declared.functions.Functions.{Functions}
 use Rattle.ci_scopes.proofs.Pushes.{functions-push}
-use Rattle.ci_scopes.proofs.functions.Functions.add.Goals.{in-Ok, in-Err}
 use Rattle.ci_scopes.proofs.functions.Functions.add.Goals as goal
 
 pub returns : goal.returns
-returns c = elim c.match-push.branch [
-  | in-Ok w ↦ rw w.result-is (λ fs at body h. functions-push c.args.self.now (record { rows = c.push.new.self; publics = c.note_where.new.self }) fs (record { file = c.args.file; at = at; name = c.args.name.now; private = c.args.private; gives = c.args.gives.now; params = c.args.params.now; body = body }) (record { file = c.args.file; name = c.args.name; private = c.args.private; heading = c.in_ok-heading.heading }) w.in-Ok.ensures.items (λ i. record { file = c.args.file; name = c.args.name.now; private = c.args.private; heading = c.in_ok-heading.ensures i }) (c.in_ok-note_where.ensures.ok ∙ (λ i. cond (not c.args.private) (noted c.args.self.now.publics (c.bytes.ensures i) ((c.len.ensures ∙ c.args.self.now.rows.ok.0) i)) c.args.self.now.publics)) h)
-  | in-Err w ↦ rw w.result-is tt
-]
+returns c = λ fs is.
+    let new : Functions = record { rows = c.add.new.all; headings = c.add-2.new.all; publics = c.note_where.new.self; own = c.note.new.self; privates = c.note_where-2.new.self } in
+    functions-push c.args.self.now new fs c.args.function c.in_ok-heading.heading c.bytes-name.result.now c.len-number.result
+    c.bytes-name.ensures (c.len-number.ensures ∙ c.args.self.now.rows.ok.0) c.in_ok-add.ensures c.in_ok-add-2.ensures c.in_ok-heading.ensures
+    c.in_ok-note_where.ensures.ok c.in_ok-note.ensures.ok c.in_ok-note_where-2.ensures.ok is

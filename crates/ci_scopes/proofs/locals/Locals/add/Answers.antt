@@ -1,8 +1,8 @@
-use Rattle.std.proofs.Common.{◌∙◌, ℕ, ap, sym, subst, cond, List, [], ◌∷◌, ◌++◌, Bor}
+use Rattle.std.proofs.Common.{◌∙◌, ℕ, ap, sym, subst, cond, List, None, [], ◌∷◌, ◌++◌, Bor}
 use Rattle.ci_base.specs.declared.value.Kind.{Kind}
 use Rattle.ci_names.specs.Scopes.{Local}
 use Rattle.ci_scopes.specs.Locals.{AreLocals, locals_from}
-use Rattle.ci_scopes.specs.Table.{noted}
+use Rattle.ci_scopes.specs.Table.{Noted, noted}
 use Rattle.ci_scopes.proofs.Held.{held-push, locals-push}
 use Rattle.ci_scopes.proofs.locals.Locals.add.Goals as goal
 
@@ -12,8 +12,8 @@ invariant_of-self-in-Ok c =
     let kinds = c.self.inside.kinds.items in
     let p = c.push.ensures.items ∙ ap (λ b. cond b (names ++ c.args.name ∷ []) names) c.if-is_err.ensures.negation in
     let q = c.push-2.ensures.items ∙ ap (λ b. cond b (kinds ++ c.args.kind ∷ []) kinds) c.if-is_err-2.ensures.negation in
-    let r = c.in-Ok.ensures.ok ∙ (λ i. noted c.self.inside.numbers (c.bytes.ensures i) ((c.len-number.ensures ∙ c.self.inside.kinds.ok.0) i)) in
-    subst (λ (t : List (Bor (List ℕ)) × List Kind × List (List ℕ × ℕ)). AreLocals t.0 t.1 t.2) (sym (λ i. (p i, q i, r i)))
+    let r = c.in-Ok.ensures.ok ∙ (λ i. noted c.self.inside.numbers None (c.bytes.ensures i) ((c.len-number.ensures ∙ c.self.inside.kinds.ok.0) i)) in
+    subst (λ (t : List (Bor (List ℕ)) × List Kind × List Noted). AreLocals t.0 t.1 t.2) (sym (λ i. (p i, q i, r i)))
     (held-push names kinds c.self.inside.numbers c.args.name c.args.kind c.self.invariant)
 
 pub returns-in-Ok-clause-ok : goal.returns-in-Ok-clause-ok

@@ -1,4 +1,5 @@
 use Rattle.std.proofs.Common.{◌≤◌, ◌+◌, ◌*◌, take}
+use Rattle.ci_base.specs.declared.bounds.TheConstants.{MOST_CELLS}
 use Rattle.ci_tree.specs.Seen.{items_of}
 use Rattle.ci_names.specs.Declarations.{Declared}
 use Rattle.ci_scopes.specs.Rows.{IsRows}
@@ -9,6 +10,6 @@ use Rattle.ci_scopes.proofs.rows.Rows.add_file.Given as goal
 abbrev pub invariant-loop-item : goal.invariant-loop-item
 invariant-loop-item l = record {
   stands : (d : Declared) → IsRows l.initial.self d → IsRows l.self (with_items l.file d (items_of (take l.item-index l.items)));
-  cells : l.self.variables.cells ≤ l.initial.self.variables.cells + 100000 * l.item-index;
+  cells : l.self.variables.cells ≤ l.initial.self.variables.cells + MOST_CELLS * l.item-index;
   arrays : l.self.variables.arrays ≤ l.initial.self.variables.arrays + l.item-index;
 }

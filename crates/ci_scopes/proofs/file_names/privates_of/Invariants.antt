@@ -1,7 +1,0 @@
-use Rattle.std.proofs.Common.{◌≡◌, ℕ, List, map, take, position}
-use Rattle.ci_scopes.specs.Stands.{function_row, is_own_private_row}
-use Rattle.ci_scopes.specs.Table.{number_of}
-use Rattle.ci_scopes.proofs.file_names.privates_of.Given as goal
-
-abbrev pub invariant-loop-number : goal.invariant-loop-number
-invariant-loop-number l = (name : List ℕ) → number_of l.table name ≡ position (is_own_private_row l.file name) (take l.number (map function_row l.rows))
