@@ -15,6 +15,3 @@ pub use machine::{DirShelf, OutSink};
 pub use memory::{MemShelf, MemSink, SureShelf, SureSink};
 pub use shelf::{Fetch, Shelf};
 pub use sink::{Failed, Sink, put_all, put_three, put_two};
-
-#[cfg(test)]
-mod tests;

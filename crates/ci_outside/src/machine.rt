@@ -1,5 +1,9 @@
 //! The files and the standard output of the machine: the edge, of whose bytes contracts tell nothing.
-ghost use Rattle.std.specs.Prelude.{◌≡◌, ◌≤◌, length, IfOk};
+ghost use Rattle.std.specs.Prelude.{◌≡◌, ◌<◌, ◌≤◌, ◌↔◌, length, take, None, IfOk, IfSome, OnOk, OnErr, IsErrOf, IsUtf8};
+ghost use Rattle.std.specs.Io.KnownBytes.{Appends, Keeps};
+ghost use Rattle.std.specs.IoError.{error_kind};
+ghost use Rattle.ci_outside.specs.Causes.{Rose};
+ghost use Rattle.ci_outside.specs.Shelf.{HasFile, LacksFile, HasLongFile};
 
 use crate::{Failed, Fetch, Shelf, Sink};
 use ci_base::Bytes;
@@ -39,8 +43,7 @@ impl<'r, R: Files> DirShelf<'r, R> {
     }
 
     /// How many faults there were.
-    #[cfg(test)]
-    pub(crate) fn faults(&self) -> u64
+    pub fn faults(&self) -> u64
         ensures { result ≡ self.now }
     {
         self.faults
@@ -54,7 +57,19 @@ impl<R: Files> Shelf for DirShelf<'_, R> {
 
     ghost faults = { λ faults. faults };
 
-    fn fetch(&mut self, alloc: Global, name: &Bytes, limit: u32) -> Result<Bytes, Fetch> {
+    fn fetch(&mut self, alloc: Global, name: &Bytes, limit: u32) -> Result<Bytes, Fetch>
+        // what the trait asks; of files, of which this shelf tells none, it says nothing
+        ensures content { IfOk result (λ content. HasFile None name.now content) }
+        ensures within { IfOk result (λ content. length content ≤ limit) }
+        ensures absent { IsErrOf result Fetch.Absent → LacksFile None name.now }
+        ensures too_long { IsErrOf result Fetch.TooLong → HasLongFile None name.now limit }
+        ensures failed { IsErrOf result Fetch.Failed → Rose self.old self.new }
+        ensures later { self.old ≤ self.new }
+
+        // nothing but a failure is counted, and a name that is no text is absent
+        ensures calm { ¬ (IsErrOf result Fetch.Failed) → self.new ≡ self.old }
+        ensures no_text { ¬ (IsUtf8 name.now) → IsErrOf result Fetch.Absent }
+    {
         match read_named(self.machine, alloc, name, limit) {
             Ok(content) => Ok(content),
             Err(Fetch::Failed) => {
@@ -73,7 +88,8 @@ fn read_named<R: Files>(
     name: &Bytes,
     limit: u32,
 ) -> Result<Bytes, Fetch>
-    ensures { IfOk result (λ content. length content ≤ limit) }
+    ensures within { IfOk result (λ content. length content ≤ limit) }
+    ensures no_text { ¬ (IsUtf8 name.now) → IsErrOf result Fetch.Absent }
 {
     let Ok(path) = str::from_utf8(name.bytes()) else {
         return Err(Fetch::Absent);
@@ -85,7 +101,9 @@ fn read_named<R: Files>(
 }
 
 /// Why the machine opened no file.
-fn fault_of(error: &Error) -> Fetch {
+fn fault_of(error: &Error) -> Fetch
+    ensures { (result ≡ Fetch.Absent) ↔ (error_kind error.now ≡ ErrorKind.NotFound) }
+{
     match error.kind() {
         ErrorKind::NotFound => Fetch::Absent,
         _ => Fetch::Failed,
@@ -94,11 +112,14 @@ fn fault_of(error: &Error) -> Fetch {
 
 /// All that the reader has left, which is read no further than one byte past the limit.
 fn read_within<F: Read>(file: &mut F, alloc: Global, limit: u32) -> Result<Bytes, Fetch>
-    ensures { IfOk result (λ content. length content ≤ limit) }
+    ensures within { IfOk result (λ content. length content ≤ limit) }
+    ensures all { IfOk result (λ content. IfSome (F.remaining file.old) (λ left. content ≡ left)) }
+    ensures too_long { IsErrOf result Fetch.TooLong → IfSome (F.remaining file.old) (λ left. limit < length left) }
+    ensures never_absent { ¬ (IsErrOf result Fetch.Absent) }
 {
     let mut content = Bytes::empty(alloc);
     let mut piece = [0; PIECE];
-    for _ in 0..u64::from(limit) + 1 {
+    loop {
         let room = limit as usize - content.bytes().len();
         let wanted = (room + 1).min(PIECE);
         let Ok(taken) = file.read(&mut piece[..wanted]) else {
@@ -114,7 +135,6 @@ fn read_within<F: Read>(file: &mut F, alloc: Global, limit: u32) -> Result<Bytes
             return Err(Fetch::Memory);
         };
     }
-    Err(Fetch::TooLong)
 }
 
 /// The standard output. Tells contracts no bytes. Contracts see the count of its faults.
@@ -143,8 +163,7 @@ impl<'r, R: Print> OutSink<'r, R> {
     }
 
     /// How many faults there were.
-    #[cfg(test)]
-    pub(crate) fn faults(&self) -> u64
+    pub fn faults(&self) -> u64
         ensures { result ≡ self.now }
     {
         self.faults
@@ -158,7 +177,18 @@ impl<R: Print> Sink for OutSink<'_, R> {
 
     ghost faults = { λ faults. faults };
 
-    fn put(&mut self, piece: &[u8]) -> Result<usize, Failed> {
+    fn put(&mut self, piece: &[u8]) -> Result<usize, Failed>
+        // what the trait asks; of bytes, of which this sink tells none, it says nothing
+        ensures within { IfOk result (λ taken. taken ≤ length piece.now) }
+        ensures some { 0 < length piece.now → IfOk result (λ taken. 0 < taken) }
+        ensures taken { IfOk result (λ taken. Appends None None (take taken piece.now)) }
+        ensures unchanged { OnErr result (Keeps None None) }
+        ensures failed { OnErr result (Rose self.old self.new) }
+        ensures later { self.old ≤ self.new }
+
+        // nothing but a failure is counted
+        ensures calm { OnOk result (self.new ≡ self.old) }
+    {
         match self.machine.write_some(piece) {
             Ok(taken) if taken > 0 || piece.is_empty() => Ok(taken),
             _ => {

@@ -7,3 +7,4 @@ pub mod Zipped
 pub mod Sourcing
 pub mod OneFault
 pub mod OneMeaning
+pub mod SomeMeaning

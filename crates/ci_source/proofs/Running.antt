@@ -3,6 +3,7 @@ use Rattle.std.proofs.Common.{◌≡◌, ℕ, suc, ◌+◌, ◌*◌, ◌≤◌, 
 use Rattle.std.specs.Prelude.{Result, IfOk, codes, nat_le}
 use Rattle.std.specs.Str.{str_eq_ignore_ascii_case}
 use Rattle.std.proofs.lemmas.List.{length-map}
+use Rattle.ci_base.specs.declared.bounds.TheConstants.{MOST_SOURCE_BYTES, MOST_TEXT_BYTES, MOST_TOKENS}
 use Rattle.ci_expressions.specs.Gives.{kinds}
 use Rattle.ci_expressions.proofs.Longer.{longer_args, longer_parameters}
 use Rattle.ci_source.specs.declared.form.FormFault.{FormFault}
@@ -98,7 +99,7 @@ file-few i (said.scoped_variables g t v vs ∷ ds) project is =
     absurd (no_variable g kind (suc (suc i)) v project (only_item (said.tree_var g kind (suc (suc i)) v) (said.tree_others said.after_var (said.tree_var g kind) (said.after_var (suc (suc i)) v) vs ++ said.tree_file (said.after_definition i (said.scoped_variables g t v vs)) ds) project is))
 
 -- so a file of few tokens traces few texts
-few_texts : (ts : List Token) (tree : List to.Item) (project : TraceProject) → said.derives (kinds ts) tree → first_form tree ≡ Some project → length ts ≤ 262144 → length project.traces ≤ 65536
+few_texts : (ts : List Token) (tree : List to.Item) (project : TraceProject) → said.derives (kinds ts) tree → first_form tree ≡ Some project → length ts ≤ MOST_TOKENS → 4 * length project.traces ≤ MOST_TOKENS
 few_texts ts tree project derived form within =
     let few : 4 * length project.traces ≤ length (said.spell_file derived.file) =
     file-few 0 derived.file project (sym (ap first_form derived.means) ∙ form) in
@@ -108,7 +109,7 @@ few_texts ts tree project derived form within =
 
 -- the function's name is Main
 name-main : (word name : List ℕ) (o : Option (List ℕ)) → o ≡ name_as_main name → o ≡ Some word → str_eq_ignore_ascii_case (codes "Main") word ≡ true
-name-main word name o is some = cases (str_eq_ignore_ascii_case (codes "Main") name) (nat_le (length name) 255) refl (sym is ∙ some) where
+name-main word name o is some = cases (str_eq_ignore_ascii_case (codes "Main") name) (nat_le (length name) MOST_TEXT_BYTES) refl (sym is ∙ some) where
   cases : (b c : Bool) → b ≡ str_eq_ignore_ascii_case (codes "Main") name → cond b (cond c (Some name) None) None ≡ Some word → str_eq_ignore_ascii_case (codes "Main") word ≡ true
   cases true true same e = let words_same : name ≡ word = some_same name word e in sym (ap (str_eq_ignore_ascii_case (codes "Main")) words_same) ∙ sym same
   cases true false same e = absurd (some_clash word e)
@@ -137,7 +138,7 @@ form-main (item ∷ more) project is = item-main item project (only_item item mo
 -- A tree of the first form gives a project that can be run
 
 -- places that rise are few
-kept_few : (low : ℕ) (ts : List Token) → low ≤ 262144 → AreKept low ts → low + length ts ≤ 262144
+kept_few : (low : ℕ) (ts : List Token) → low ≤ MOST_SOURCE_BYTES → AreKept low ts → low + length ts ≤ MOST_SOURCE_BYTES
 kept_few low [] within kept = omega arith
 kept_few low (t ∷ ts) within kept = omega (arith, kept_few (t.place + 1) ts (omega (arith, kept.2)) kept.3, kept.1)
 

@@ -3,6 +3,7 @@ use Rattle.std.proofs.Common.{◌≡◌, ◌≢◌, ℕ, ◌<◌, ◌≤◌, Lis
 use Rattle.std.specs.Prelude.{All, slice_get, option_map, unwrap_or}
 use Rattle.std.proofs.lemmas.Option.{slice_get-get_or, slice_get_read, get_or_from_slice_get}
 use Rattle.std.proofs.lemmas.Slice.Zip.{AllZip-long}
+use Rattle.ci_base.specs.declared.bounds.TheConstants.{MOST_SOURCE_BYTES}
 use Rattle.ci_binder.specs.Refusals.{IsRefusal as IsBindRefusal}
 use Rattle.ci_lexer.specs.declared.fault.LexFault.{LexFault}
 use Rattle.ci_lexer.specs.declared.fault.LexFault.TheVariants as lex_faults
@@ -74,7 +75,7 @@ read-tokens sources i source read ts within is same lexed =
     (ts, subst P (same ∙ sym at) lexed)
 
 -- a source that was read is as short as all are
-pub read-within : (sources : List (List ℕ)) (i : ℕ) (source read : List ℕ) → All (λ s. length s ≤ 262144) sources → i < length sources → source ≡ get_or sources i source → read ≡ source → length read ≤ 262144
+pub read-within : (sources : List (List ℕ)) (i : ℕ) (source read : List ℕ) → All (λ s. length s ≤ MOST_SOURCE_BYTES) sources → i < length sources → source ≡ get_or sources i source → read ≡ source → length read ≤ MOST_SOURCE_BYTES
 read-within sources i source read all within is same = omega (arith, all i source within, ap length same, ap length is)
 
 -- the sources before this one have tokens, and it has none

@@ -57,7 +57,7 @@ pub record HasFirstNameFault (sources : List (List ℕ)) (file : ℕ) (fault : F
   pub tokens_are : tokens source ts
   pub told : (file ≡ first.file) × (fault ≡ name_fault first.kind) × (offset ≡ token_offset source ts first.token)
 
--- the first fault of the sources: by phase, then by file, then by place
+-- the first fault of the sources: by phase, then by file, then by offset
 abbrev pub HasFirstFault : List (List ℕ) → ℕ → Fault → ℕ → Type 0
 HasFirstFault sources file fault offset =
     HasFirstLexicalFault sources file fault offset ⊎ (HasFirstGrammarFault sources file fault offset ⊎ HasFirstNameFault sources file fault offset)

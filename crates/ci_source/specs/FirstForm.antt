@@ -1,6 +1,7 @@
 -- The trees that can be run today: one function Main, whose statements trace texts.
 use Rattle.std.specs.Prelude.{◌≡◌, ℕ, false, nat_le, if◌then◌else◌, List, [], ◌∷◌, length, codes, flat_map, Option, None, Some}
 use Rattle.std.specs.Str.{str_eq_ignore_ascii_case}
+use Rattle.ci_base.specs.declared.bounds.TheConstants.{MOST_TEXT_BYTES}
 use Rattle.ci_tree.specs.Files.{IsFileTree}
 use Rattle.ci_tree.specs.Tree as tree
 use Rattle.ci_tree.specs.Tree.{Expr, expr, What, literal, Exprs, more, no_expr, Stmt, call_of, Block, done, Item, function}
@@ -8,7 +9,7 @@ use Rattle.ci_tree.specs.declared.trace_project.TraceProject.{TraceProject}
 
 -- the text that an expression spells, where it is nothing but a text
 abbrev pub what_text : What → Option (List ℕ)
-what_text (literal text) = if nat_le (length text) 255 then Some text else None
+what_text (literal text) = if nat_le (length text) MOST_TEXT_BYTES then Some text else None
 what_text _ = None
 
 abbrev pub expr_text : Expr → Option (List ℕ)
@@ -42,7 +43,7 @@ traced_texts (tree.then first rest) = text_before (traced_text first) (traced_te
 
 -- the name, where it is Main in any letter case
 abbrev pub name_as_main : List ℕ → Option (List ℕ)
-name_as_main name = if str_eq_ignore_ascii_case (codes "Main") name then (if nat_le (length name) 255 then Some name else None) else None
+name_as_main name = if str_eq_ignore_ascii_case (codes "Main") name then (if nat_le (length name) MOST_TEXT_BYTES then Some name else None) else None
 
 -- the project with this name that traces these texts
 abbrev pub named_project : Option (List ℕ) → Option (List (List ℕ)) → Option TraceProject

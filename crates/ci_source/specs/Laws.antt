@@ -1,5 +1,5 @@
--- One meaning for sources.
-use Rattle.std.specs.Prelude.{◌≡◌, ℕ, List}
+-- One meaning for sources, and always one.
+use Rattle.std.specs.Prelude.{◌≡◌, ℕ, List, ◌⊎◌}
 use Rattle.ci_source.specs.declared.fault.Fault.{Fault}
 use Rattle.ci_source.specs.Compiling.{parse_to, compiles, HasFirstFault}
 use Rattle.ci_tree.specs.Bound.{Project}
@@ -22,3 +22,12 @@ HaveOneProject = (sources : List (List ℕ)) (project project' : Project) → co
 -- no sources have two lists of trees
 abbrev pub HaveOneTrees : Type 0
 HaveOneTrees = (sources : List (List ℕ)) (trees trees' : List (List Item)) → parse_to sources trees → parse_to sources trees' → trees ≡ trees'
+
+-- the sources have a project or a first fault
+abbrev pub HasMeaning : List (List ℕ) → Type 0
+HasMeaning sources =
+    ((project : Project) × compiles sources project) ⊎ ((file : ℕ) × (fault : Fault) × (offset : ℕ) × HasFirstFault sources file fault offset)
+
+-- all sources have a project or a first fault, however many there are
+abbrev pub HaveMeanings : Type 0
+HaveMeanings = (sources : List (List ℕ)) → HasMeaning sources

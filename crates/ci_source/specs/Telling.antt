@@ -1,6 +1,7 @@
 -- What is told of sources, read or refused.
-use Rattle.std.specs.Prelude.{◌≡◌, ℕ, ◌<◌, ◌≤◌, true, List, [], length, map, codes, Option, Some, slice_index_or}
+use Rattle.std.specs.Prelude.{◌≡◌, ℕ, ◌*◌, ◌<◌, ◌≤◌, true, List, [], length, map, codes, Option, Some, slice_index_or}
 use Rattle.std.specs.Str.{str_eq_ignore_ascii_case}
+use Rattle.ci_base.specs.declared.bounds.TheConstants.{MOST_TOKENS}
 use Rattle.ci_lexer.specs.declared.fault.LexFault.{LexFault}
 use Rattle.ci_lexer.specs.declared.fault.LexFault.TheVariants as lex_faults
 use Rattle.ci_names.specs.Binding.{binds}
@@ -22,10 +23,11 @@ use Rattle.ci_source.specs.Compiling.{parse_to, HasFirstFault}
 abbrev pub IsMain : TraceProject → Type 0
 IsMain project = str_eq_ignore_ascii_case (codes "Main") project.name ≡ true
 
--- The project can be run: a task can be started from its function, and its work will stay within the default budget.
+-- The project can be run: a task can be started from its function, and its texts are few enough for its work to stay within the
+-- default budget, since each has at least four tokens of its own.
 pub record CanRun (project : TraceProject) : Type 0 where
   pub main : IsMain project
-  pub few : length project.traces ≤ 65536
+  pub few : 4 * length project.traces ≤ MOST_TOKENS
 
 -- these are the trees of the sources, and the project that they bind to
 pub record ReadsTo (sources : List (List ℕ)) (compiled : Compiled) : Type 0 where

@@ -8,12 +8,10 @@ mod form;
 mod laws;
 mod reading;
 mod telling;
-#[cfg(test)]
-mod tests;
 
 pub use compiled::Compiled;
 pub use fault::{Fault, fault_text};
 pub use form::{FormFault, first_form};
-pub use laws::one_meaning;
+pub use laws::{one_meaning, some_meaning};
 pub use reading::read_sources;
 pub use telling::SourceFault;

@@ -1,5 +1,6 @@
 //! Reading sources: their trees and their project, or why there is none.
 ghost use Rattle.std.specs.Prelude.{◌<◌, ◌≤◌, All, List, [], length, map, take, slice_index_or, IfOk, IfErr};
+ghost use Rattle.ci_base.specs.declared.bounds.TheConstants.{MOST_FILES, MOST_SOURCE_BYTES};
 ghost use Rattle.ci_binder.specs.Refusals.{IsRefusal as IsBindRefusal};
 ghost use Rattle.ci_source.specs.Compiling.{parse_to, compiles, HasTokens, HasTree};
 ghost use Rattle.ci_source.specs.Sources.{Parses, HasLexicalFault, HasGrammarFault};
@@ -22,8 +23,8 @@ use std::alloc::Global;
 /// sources. Sources have one project or one first fault and never both (`one_meaning`), so each answer but `Memory` comes exactly
 /// where its clause says.
 pub fn read_sources(alloc: Global, sources: &[Bytes]) -> Result<Compiled, SourceFault>
-    requires few { length sources.now ≤ 64 }
-    requires within { All (λ source. length source ≤ 262144) sources.now }
+    requires few { length sources.now ≤ MOST_FILES }
+    requires within { All (λ source. length source ≤ MOST_SOURCE_BYTES) sources.now }
     ensures ok { IfOk result (λ compiled. ReadsTo sources.now compiled) }
     ensures compiles { IfOk result (λ compiled. compiles sources.now (project_of compiled.project)) }
     ensures err { IfErr result (λ fault. IsRefusedAs sources.now fault) }
@@ -38,8 +39,8 @@ pub fn read_sources(alloc: Global, sources: &[Bytes]) -> Result<Compiled, Source
 /// The tree of each source, or the first fault of their tokens or else of their grammar. The tokens of a source are let go of as soon
 /// as its tree is made, so that those of one source at a time take memory.
 fn parse_sources(alloc: Global, sources: &[Bytes]) -> Result<FileTrees, SourceFault>
-    requires few { length sources.now ≤ 64 }
-    requires within { All (λ source. length source ≤ 262144) sources.now }
+    requires few { length sources.now ≤ MOST_FILES }
+    requires within { All (λ source. length source ≤ MOST_SOURCE_BYTES) sources.now }
     ensures ok { IfOk result (λ trees. parse_to sources.now (map items_of trees)) }
     ensures err { IfErr result (λ fault. IsRefusedAs sources.now fault) }
 {
@@ -60,7 +61,7 @@ fn parse_sources(alloc: Global, sources: &[Bytes]) -> Result<FileTrees, SourceFa
 
 /// The tokens of the source of this number, or its lexical fault.
 fn lex_file(alloc: Global, file: u32, source: &[u8]) -> Result<TokenList, SourceFault>
-    requires { length source.now ≤ 262144 }
+    requires { length source.now ≤ MOST_SOURCE_BYTES }
     ensures ok { IfOk result (λ list. tokens source.now list) }
     ensures err { IfErr result (λ fault. IsToldOf HasLexicalFault file source.now fault) }
 {
@@ -77,7 +78,7 @@ fn parse_file(
     source: &[u8],
     list: &TokenList,
 ) -> Result<FileTree, SourceFault>
-    requires within { length source.now ≤ 262144 }
+    requires within { length source.now ≤ MOST_SOURCE_BYTES }
     requires lexed { tokens source.now list.now }
     ensures ok { IfOk result (λ tree. Parses source.now (items_of tree)) }
     ensures err { IfErr result (λ fault. IsToldOf HasGrammarFault file source.now fault) }
@@ -96,9 +97,9 @@ fn grammar_or_later_fault(
     file: usize,
     fault: SourceFault,
 ) -> SourceFault
-    requires few { length sources.now ≤ 64 }
+    requires few { length sources.now ≤ MOST_FILES }
     requires number { file < length sources.now }
-    requires within { All (λ source. length source ≤ 262144) sources.now }
+    requires within { All (λ source. length source ≤ MOST_SOURCE_BYTES) sources.now }
     requires before { All HasTree (take file sources.now) }
     requires own { HasTokens (slice_index_or sources.now file []) }
     requires told { IsToldOf HasGrammarFault file (slice_index_or sources.now file []) fault }
@@ -113,10 +114,10 @@ fn grammar_or_later_fault(
 }
 
 /// What is told of a fault of the names and kinds of sources that have trees. Since their tokens are gone, those of the source with
-/// the fault are read once more for its place.
+/// the fault are read once more for its offset.
 fn names_fault(alloc: Global, sources: &[Bytes], fault: BindFault) -> SourceFault
-    requires few { length sources.now ≤ 64 }
-    requires within { All (λ source. length source ≤ 262144) sources.now }
+    requires few { length sources.now ≤ MOST_FILES }
+    requires within { All (λ source. length source ≤ MOST_SOURCE_BYTES) sources.now }
     requires bound { (trees : List (List Item)) × parse_to sources.now trees × IsBindRefusal trees fault }
     ensures { IsRefusedAs sources.now result }
 {

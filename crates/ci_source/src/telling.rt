@@ -1,5 +1,6 @@
 //! What is told of refused sources: the fault, the number of its file, and the offset at which it is told.
 ghost use Rattle.std.specs.Prelude.{◌≡◌, ◌≤◌, length};
+ghost use Rattle.ci_base.specs.declared.bounds.TheConstants.{MOST_SOURCE_BYTES};
 ghost use Rattle.ci_source.specs.Compiling.{token_offset as offset_of_token};
 ghost use Rattle.ci_source.specs.Faults.{name_fault as fault_of_names};
 ghost use Rattle.ci_source.specs.Telling.{LexTold, ParseTold, NamesToken};
@@ -46,7 +47,7 @@ pub(crate) fn grammar_fault(
     tokens: &[Token],
     fault: &ParseFault,
 ) -> SourceFault
-    requires within { length source.now ≤ 262144 }
+    requires within { length source.now ≤ MOST_SOURCE_BYTES }
     requires named { NamesToken fault.now tokens.now }
     ensures { ParseTold file source.now tokens.now fault.now result }
 {
@@ -74,7 +75,7 @@ pub(crate) fn named_fault(
     token: u32,
     kind: BindKind,
 ) -> SourceFault
-    requires { length source.now ≤ 262144 }
+    requires { length source.now ≤ MOST_SOURCE_BYTES }
     ensures { result ≡ SourceFault.Refused file (fault_of_names kind) (offset_of_token source.now tokens.now token) }
 {
     refused(file, name_fault(kind), token_offset(source, tokens, token))
@@ -82,7 +83,7 @@ pub(crate) fn named_fault(
 
 /// Where the token of this index stands in the source; its end, where there is none.
 fn token_offset(source: &[u8], tokens: &[Token], index: u32) -> u32
-    requires { length source.now ≤ 262144 }
+    requires { length source.now ≤ MOST_SOURCE_BYTES }
     ensures { result ≡ offset_of_token source.now tokens.now index }
 {
     match tokens.get(index as usize) {

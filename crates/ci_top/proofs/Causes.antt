@@ -1,5 +1,5 @@
 -- Two causes that hold of the same words agree.
-use Rattle.std.proofs.Common.{◌≡◌, ℕ, ◌<◌, ◌≤◌, true, false, List, [], ◌∷◌, ◌++◌, length, Option, Some, None, Result, Ok, Err, IsSomeAnd, refl, sym, ◌∙◌, ap, subst, arith, ◌⊎◌, inl, inr}
+use Rattle.std.proofs.Common.{◌≡◌, ℕ, ◌<◌, ◌≤◌, true, false, List, [], ◌∷◌, ◌++◌, length, Option, Some, None, Result, Ok, Err, IsSomeAnd, refl, sym, ◌∙◌, ap, subst, arith, inl, inr}
 use Rattle.std.specs.FinMap.{get}
 use Rattle.std.specs.List.{slice_get}
 use Rattle.ci_outside.specs.Causes.{Rose}
@@ -9,7 +9,6 @@ use Rattle.ci_source.specs.Compiling.{HasFirstFault, parse_to}
 use Rattle.ci_source.specs.FirstForm.{files_form}
 use Rattle.ci_source.specs.Laws.{HaveOneFirstFault, NeverBothMeanings, HaveOneTrees}
 use Rattle.ci_tree.specs.declared.trace_project.TraceProject.{TraceProject}
-use Rattle.ci_tree.specs.Tree.{Item}
 use Rattle.ci_words.specs.declared.command.Command.{Command}
 use Rattle.ci_words.specs.declared.command.Command.TheVariants as commands
 use Rattle.ci_words.specs.declared.fault.WordFault.{WordFault}
@@ -18,9 +17,9 @@ use Rattle.ci_words.specs.Order.{Orders}
 use Rattle.ci_words.proofs.Answer.{one_answer}
 use Rattle.ci_top.specs.declared.decision.FileFault.{FileFault}
 use Rattle.ci_top.specs.declared.decision.FileFault.TheVariants as faults
-use Rattle.ci_top.specs.Answers.{Kept, Cause, words_refused, workers_refused, order_not_built, not_fetched, source_refused, form_refused, checked, no_memory, ran, Holds, FaultHolds, Fetched, ComesTo, HasAll, Compiles, RunsAs, HasNoForm, IsRun, IsRefused, IsOfNoForm, IsChecked}
-use Rattle.ci_top.specs.Asked.{names_of, is_built, AskFor, AskForWorkers, AskForUnbuilt, AreRefused}
-use Rattle.ci_top.specs.Defaults.{source_limit}
+use Rattle.ci_top.specs.Answers.{Kept, words_refused, workers_refused, order_not_built, not_fetched, source_refused, form_refused, checked, no_memory, ran, FaultHolds, ComesTo, HasAll, Compiles, RunsAs, HasNoForm, IsRun, IsRefused, IsOfNoForm}
+use Rattle.ci_top.specs.Asked.{names_of, wanted_of, is_built, AskFor, AskForWorkers, AreRefused}
+use Rattle.ci_top.specs.Fetching.{Wanted, Fetched}
 use Rattle.ci_top.specs.OneCause.{OneCause}
 use Rattle.ci_top.specs.World.{World}
 
@@ -30,62 +29,65 @@ option_clash {A} x o none some =
     subst Family (sym none ∙ some) tt
 
 -- a file that was fetched isn't at fault
-fetched-no_fault : (files : Files) (before now : ℕ) (fault : FileFault) (name content : List ℕ) → (Rose before now → ⊥) → HasFile (Some files) name content → length content ≤ source_limit
-    → FaultHolds (Some files) before now fault name → ⊥
-fetched-no_fault files before now faults.Absent name content calm has within lacks = option_clash content (get files name) lacks has
-fetched-no_fault files before now faults.ReadFault name content calm has within rose = calm rose
-fetched-no_fault files before now faults.TooLong name content calm has within long =
-    let Family : Option (List ℕ) → Type 0 = λ o. IsSomeAnd o (λ c. source_limit < length c) in
-    let longer : source_limit < length content = subst Family has long in
+fetched-no_fault : (files : Files) (before now : ℕ) (fault : FileFault) (file : Wanted) (content : List ℕ) → (Rose before now → ⊥) → HasFile (Some files) file.name content → length content ≤ file.limit
+    → FaultHolds (Some files) before now fault file → ⊥
+fetched-no_fault files before now faults.Absent file content calm has within lacks = option_clash content (get files file.name) lacks has
+fetched-no_fault files before now faults.ReadFault file content calm has within rose = calm rose
+fetched-no_fault files before now faults.TooLong file content calm has within long =
+    let Family : Option (List ℕ) → Type 0 = λ o. IsSomeAnd o (λ c. file.limit < length c) in
+    let longer : file.limit < length content = subst Family has long in
     omega arith
 
 -- a file that isn't there isn't too long
-absent-not_long : (files : Files) (before now : ℕ) (name : List ℕ) → FaultHolds (Some files) before now faults.Absent name → FaultHolds (Some files) before now faults.TooLong name → ⊥
-absent-not_long files before now name lacks long = none-holds (λ c. source_limit < length c) (get files name) lacks long where
+absent-not_long : (files : Files) (before now : ℕ) (file : Wanted) → FaultHolds (Some files) before now faults.Absent file → FaultHolds (Some files) before now faults.TooLong file → ⊥
+absent-not_long files before now file lacks long = none-holds (λ c. file.limit < length c) (get files file.name) lacks long where
   none-holds : {A : Type 0} (P : A → Type 0) (o : Option A) → o ≡ None → IsSomeAnd o P → ⊥
   none-holds P None none holds = holds
   none-holds P (Some x) none holds = option_clash x (Some x) none refl
 
 -- one file has one fault
-same_fault : (files : Files) (before now : ℕ) (fault other : FileFault) (name : List ℕ) → (Rose before now → ⊥) → FaultHolds (Some files) before now fault name → FaultHolds (Some files) before now other name
+same_fault : (files : Files) (before now : ℕ) (fault other : FileFault) (file : Wanted) → (Rose before now → ⊥) → FaultHolds (Some files) before now fault file → FaultHolds (Some files) before now other file
     → fault ≡ other
-same_fault files before now faults.Absent faults.Absent name calm one two = refl
-same_fault files before now faults.Absent faults.ReadFault name calm one two = absurd (calm two)
-same_fault files before now faults.Absent faults.TooLong name calm one two = absurd (absent-not_long files before now name one two)
-same_fault files before now faults.ReadFault other name calm one two = absurd (calm one)
-same_fault files before now faults.TooLong faults.Absent name calm one two = absurd (absent-not_long files before now name two one)
-same_fault files before now faults.TooLong faults.ReadFault name calm one two = absurd (calm two)
-same_fault files before now faults.TooLong faults.TooLong name calm one two = refl
+same_fault files before now faults.Absent faults.Absent file calm one two = refl
+same_fault files before now faults.Absent faults.ReadFault file calm one two = absurd (calm two)
+same_fault files before now faults.Absent faults.TooLong file calm one two = absurd (absent-not_long files before now file one two)
+same_fault files before now faults.ReadFault other file calm one two = absurd (calm one)
+same_fault files before now faults.TooLong faults.Absent file calm one two = absurd (absent-not_long files before now file two one)
+same_fault files before now faults.TooLong faults.ReadFault file calm one two = absurd (calm two)
+same_fault files before now faults.TooLong faults.TooLong file calm one two = refl
+
+-- the file has this content, within its limit
+abbrev IsThere : Files → List ℕ → Wanted → Type 0
+IsThere files content file = HasFile (Some files) file.name content × (length content ≤ file.limit)
 
 -- each of the files that were fetched is there
-fetched-at : (files : Option Files) (front behind : List (List ℕ)) (name : List ℕ) (contents : List (List ℕ)) → Fetched files (front ++ name ∷ behind) contents
-    → (content : List ℕ) × HasFile files name content × (length content ≤ source_limit)
-fetched-at files [] behind name [] none = absurd none
-fetched-at files [] behind name (content ∷ contents) fetched = (content, fetched.0, fetched.1)
-fetched-at files (x ∷ front) behind name [] none = absurd none
-fetched-at files (x ∷ front) behind name (content ∷ contents) fetched = fetched-at files front behind name contents fetched.2
+fetched-at : (files : Files) (front behind : List Wanted) (file : Wanted) (contents : List (List ℕ)) → Fetched (Some files) (front ++ file ∷ behind) contents → (content : List ℕ) × IsThere files content file
+fetched-at files [] behind file [] none = absurd none
+fetched-at files [] behind file (content ∷ contents) fetched = (content, (fetched.0, fetched.1))
+fetched-at files (x ∷ front) behind file [] none = absurd none
+fetched-at files (x ∷ front) behind file (content ∷ contents) fetched = fetched-at files front behind file contents fetched.2
 
 -- the first file at fault is one
-first_fault : (files : Files) (before now : ℕ) (fault other : FileFault) (front front' behind behind' : List (List ℕ)) (name name' : List ℕ) (contents contents' : List (List ℕ))
-    → (Rose before now → ⊥) → front ++ name ∷ behind ≡ front' ++ name' ∷ behind' → Fetched (Some files) front contents → Fetched (Some files) front' contents'
-    → FaultHolds (Some files) before now fault name → FaultHolds (Some files) before now other name' → (length front ≡ length front') × (name ≡ name')
-first_fault files before now fault other [] [] behind behind' name name' contents contents' calm names one two holds holds' = (refl, cc)
-first_fault files before now fault other [] (x ∷ front') behind behind' name name' contents [] calm names one none holds holds' = absurd none
-first_fault files before now fault other [] (x ∷ front') behind behind' name name' contents (content ∷ contents') calm names one two holds holds' =
-    let same : x ≡ name = cc in
-    let Family : List ℕ → Type 0 = λ n. HasFile (Some files) n content in
-    absurd (fetched-no_fault files before now fault name content calm (subst Family same two.0) two.1 holds)
-first_fault files before now fault other (x ∷ front) [] behind behind' name name' [] contents' calm names none two holds holds' = absurd none
-first_fault files before now fault other (x ∷ front) [] behind behind' name name' (content ∷ contents) contents' calm names one two holds holds' =
-    let same : x ≡ name' = cc in
-    let Family : List ℕ → Type 0 = λ n. HasFile (Some files) n content in
-    absurd (fetched-no_fault files before now other name' content calm (subst Family same one.0) one.1 holds')
-first_fault files before now fault other (x ∷ front) (y ∷ front') behind behind' name name' [] contents' calm names none two holds holds' = absurd none
-first_fault files before now fault other (x ∷ front) (y ∷ front') behind behind' name name' (content ∷ contents) [] calm names one none holds holds' = absurd none
-first_fault files before now fault other (x ∷ front) (y ∷ front') behind behind' name name' (content ∷ contents) (content' ∷ contents') calm names one two holds holds' =
-    let rest : front ++ name ∷ behind ≡ front' ++ name' ∷ behind' = cc in
-    let found : (length front ≡ length front') × (name ≡ name') =
-    first_fault files before now fault other front front' behind behind' name name' contents contents' calm rest one.2 two.2 holds holds' in
+first_fault : (files : Files) (before now : ℕ) (fault other : FileFault) (front front' behind behind' : List Wanted) (file file' : Wanted) (contents contents' : List (List ℕ))
+    → (Rose before now → ⊥) → front ++ file ∷ behind ≡ front' ++ file' ∷ behind' → Fetched (Some files) front contents → Fetched (Some files) front' contents'
+    → FaultHolds (Some files) before now fault file → FaultHolds (Some files) before now other file' → (length front ≡ length front') × (file ≡ file')
+first_fault files before now fault other [] [] behind behind' file file' contents contents' calm wanted one two holds holds' = (refl, cc)
+first_fault files before now fault other [] (x ∷ front') behind behind' file file' contents [] calm wanted one none holds holds' = absurd none
+first_fault files before now fault other [] (x ∷ front') behind behind' file file' contents (content ∷ contents') calm wanted one two holds holds' =
+    let same : x ≡ file = cc in
+    let there : IsThere files content file = subst (IsThere files content) same (two.0, two.1) in
+    absurd (fetched-no_fault files before now fault file content calm there.0 there.1 holds)
+first_fault files before now fault other (x ∷ front) [] behind behind' file file' [] contents' calm wanted none two holds holds' = absurd none
+first_fault files before now fault other (x ∷ front) [] behind behind' file file' (content ∷ contents) contents' calm wanted one two holds holds' =
+    let same : x ≡ file' = cc in
+    let there : IsThere files content file' = subst (IsThere files content) same (one.0, one.1) in
+    absurd (fetched-no_fault files before now other file' content calm there.0 there.1 holds')
+first_fault files before now fault other (x ∷ front) (y ∷ front') behind behind' file file' [] contents' calm wanted none two holds holds' = absurd none
+first_fault files before now fault other (x ∷ front) (y ∷ front') behind behind' file file' (content ∷ contents) [] calm wanted one none holds holds' = absurd none
+first_fault files before now fault other (x ∷ front) (y ∷ front') behind behind' file file' (content ∷ contents) (content' ∷ contents') calm wanted one two holds holds' =
+    let rest : front ++ file ∷ behind ≡ front' ++ file' ∷ behind' = cc in
+    let found : (length front ≡ length front') × (file ≡ file') =
+    first_fault files before now fault other front front' behind behind' file file' contents contents' calm rest one.2 two.2 holds holds' in
     (omega (arith, found.0), found.1)
 
 -- the words have one order
@@ -135,48 +137,51 @@ one_index words index other one two =
     cc
 
 -- files have one list of contents
-one_contents : (files : Files) (names contents contents' : List (List ℕ)) → Fetched (Some files) names contents → Fetched (Some files) names contents' → contents ≡ contents'
+one_contents : (files : Files) (wanted : List Wanted) (contents contents' : List (List ℕ)) → Fetched (Some files) wanted contents → Fetched (Some files) wanted contents' → contents ≡ contents'
 one_contents files [] [] [] one two = refl
 one_contents files [] [] (c ∷ cs) one none = absurd none
 one_contents files [] (c ∷ cs) contents' none two = absurd none
-one_contents files (name ∷ names) [] contents' none two = absurd none
-one_contents files (name ∷ names) (c ∷ cs) [] one none = absurd none
-one_contents files (name ∷ names) (c ∷ cs) (d ∷ ds) one two =
+one_contents files (file ∷ wanted) [] contents' none two = absurd none
+one_contents files (file ∷ wanted) (c ∷ cs) [] one none = absurd none
+one_contents files (file ∷ wanted) (c ∷ cs) (d ∷ ds) one two =
     let same : c ≡ d = some_same c d (sym one.0 ∙ two.0) in
-    let rest : cs ≡ ds = one_contents files names cs ds one.2 two.2 in
+    let rest : cs ≡ ds = one_contents files wanted cs ds one.2 two.2 in
     cc where
       some_same : (x y : List ℕ) → Some x ≡ Some y → x ≡ y
       some_same x y e = cc
 
+-- an order wants one list of files
+one_wanted : (words : List (List ℕ)) (asked other : Order) → AskFor words asked → AskFor words other → wanted_of words asked ≡ wanted_of words other
+one_wanted words asked other one two = ap (wanted_of words) (one_order words asked other one.words_are two.words_are)
+
 -- where a file is at fault, not all files were fetched
-pub not_all : (words : List (List ℕ)) (files : Files) (before now number : ℕ) (fault : FileFault) (name : List ℕ) (contents : List (List ℕ)) → (Rose before now → ⊥) → ComesTo words (Some files) number name
-    → FaultHolds (Some files) before now fault name → HasAll words (Some files) contents → ⊥
-not_all words files before now number fault name contents calm comes holds all =
-    let names : names_of words all.asked ≡ comes.next.before ++ name ∷ comes.next.after =
-    ap (names_of words) (one_order words all.asked comes.asked all.asks.words_are comes.asks.words_are) ∙ comes.next.names_are in
-    let Family : List (List ℕ) → Type 0 = λ l. Fetched (Some files) l contents in
-    let found : (content : List ℕ) × HasFile (Some files) name content × (length content ≤ source_limit) =
-    fetched-at (Some files) comes.next.before comes.next.after name contents (subst Family names all.fetched) in
-    fetched-no_fault files before now fault name found.0 calm found.1 found.2 holds
+pub not_all : (words : List (List ℕ)) (files : Files) (before now number : ℕ) (fault : FileFault) (file : Wanted) (contents : List (List ℕ)) → (Rose before now → ⊥) → ComesTo words (Some files) number file
+    → FaultHolds (Some files) before now fault file → HasAll words (Some files) contents → ⊥
+not_all words files before now number fault file contents calm comes holds all =
+    let wanted : wanted_of words all.asked ≡ comes.next.before ++ file ∷ comes.next.after =
+    one_wanted words all.asked comes.asked all.asks comes.asks ∙ comes.next.wanted_are in
+    let Family : List Wanted → Type 0 = λ l. Fetched (Some files) l contents in
+    let found : (content : List ℕ) × IsThere files content file = fetched-at files comes.next.before comes.next.after file contents (subst Family wanted all.fetched) in
+    fetched-no_fault files before now fault file found.0 calm found.1.0 found.1.1 holds
 
 -- all files have one list of contents
 pub all_contents : (words : List (List ℕ)) (files : Files) (contents contents' : List (List ℕ)) → HasAll words (Some files) contents → HasAll words (Some files) contents' → contents ≡ contents'
 all_contents words files contents contents' one two =
-    let Family : Order → Type 0 = λ o. Fetched (Some files) (names_of words o) contents' in
-    one_contents files (names_of words one.asked) contents contents' one.fetched (subst Family (one_order words two.asked one.asked two.asks.words_are one.asks.words_are) two.fetched)
+    let Family : List Wanted → Type 0 = λ l. Fetched (Some files) l contents' in
+    one_contents files (wanted_of words one.asked) contents contents' one.fetched (subst Family (one_wanted words two.asked one.asked two.asks one.asks) two.fetched)
 
 -- two files at fault are one
-same_file : (words : List (List ℕ)) (files : Files) (before now : ℕ) (fault other : FileFault) (number number' : ℕ) (name name' : List ℕ) → (Rose before now → ⊥)
-    → ComesTo words (Some files) number name → FaultHolds (Some files) before now fault name → ComesTo words (Some files) number' name' → FaultHolds (Some files) before now other name'
-    → not_fetched fault number name ≡ not_fetched other number' name'
-same_file words files before now fault other number number' name name' calm one holds two holds' =
-    let names : one.next.before ++ name ∷ one.next.after ≡ two.next.before ++ name' ∷ two.next.after =
-    sym one.next.names_are ∙ ap (names_of words) (one_order words one.asked two.asked one.asks.words_are two.asks.words_are) ∙ two.next.names_are in
-    let found : (length one.next.before ≡ length two.next.before) × (name ≡ name') =
-    first_fault files before now fault other one.next.before two.next.before one.next.after two.next.after name name' one.next.contents two.next.contents calm names one.next.fetched two.next.fetched holds holds' in
-    let Family : List ℕ → Type 0 = λ n. FaultHolds (Some files) before now other n in
-    let faults_same : fault ≡ other = same_fault files before now fault other name calm holds (subst Family (sym found.1) holds') in
-    let names_same : name ≡ name' = found.1 in
+same_file : (words : List (List ℕ)) (files : Files) (before now : ℕ) (fault other : FileFault) (number number' : ℕ) (file file' : Wanted) → (Rose before now → ⊥)
+    → ComesTo words (Some files) number file → FaultHolds (Some files) before now fault file → ComesTo words (Some files) number' file' → FaultHolds (Some files) before now other file'
+    → not_fetched fault number file ≡ not_fetched other number' file'
+same_file words files before now fault other number number' file file' calm one holds two holds' =
+    let wanted : one.next.before ++ file ∷ one.next.after ≡ two.next.before ++ file' ∷ two.next.after =
+    sym one.next.wanted_are ∙ one_wanted words one.asked two.asked one.asks two.asks ∙ two.next.wanted_are in
+    let found : (length one.next.before ≡ length two.next.before) × (file ≡ file') =
+    first_fault files before now fault other one.next.before two.next.before one.next.after two.next.after file file' one.next.contents two.next.contents calm wanted one.next.fetched two.next.fetched holds holds' in
+    let Family : Wanted → Type 0 = λ f. FaultHolds (Some files) before now other f in
+    let faults_same : fault ≡ other = same_fault files before now fault other file calm holds (subst Family (sym found.1) holds') in
+    let files_same : file ≡ file' = found.1 in
     let numbers_same : number ≡ number' = omega (arith, one.next.number_is, two.next.number_is, found.0) in
     cc
 
@@ -231,6 +236,17 @@ command_clash words files contents contents' one two runs checks =
 same_first : (words : List (List ℕ)) (files : Files) (name name' : List ℕ) → IsOfNoForm words (Some files) name → IsOfNoForm words (Some files) name' → name ≡ name'
 same_first words files name name' one two = one_member _ _ 0 0 name name' (one_names words files one.contents two.contents one.read two.read) refl one.name_is two.name_is
 
+-- two runs of the same files are of one project
+same_project : HaveOneTrees → (words : List (List ℕ)) (files : Files) (kept kept' : Kept) (project project' : TraceProject) (world world' : World)
+    → IsRun words (Some files) kept project world → IsRun words (Some files) kept' project' world' → project ≡ project'
+same_project one_trees words files kept kept' project project' world world' one two =
+    let Family : List (List ℕ) → Type 0 = λ l. parse_to l two.compiled.trees in
+    let sources_same : one.contents ≡ two.contents = all_contents words files one.contents two.contents one.read two.read in
+    let trees_same : one.compiled.trees ≡ two.compiled.trees =
+    one_trees one.contents one.compiled.trees two.compiled.trees one.compiled.parsed (subst Family (sym sources_same) two.compiled.parsed) in
+    let both : Some project ≡ Some project' = sym one.compiled.form ∙ ap files_form trees_same ∙ two.compiled.form in
+    cc
+
 -- two causes that hold agree
 pub one_cause_lem : HaveOneFirstFault → NeverBothMeanings → HaveOneTrees → OneCause
 one_cause_lem one_fault never_both one_trees words files before now kept kept' (words_refused fault) (words_refused fault') calm one two =
@@ -248,7 +264,7 @@ one_cause_lem one_fault never_both one_trees words files before now kept kept' (
 one_cause_lem one_fault never_both one_trees words files before now kept kept' (words_refused fault) checked calm one two =
     absurd (refused-not_asked words two.1.read.asked (inl (fault, one.1)) two.1.read.asks)
 one_cause_lem one_fault never_both one_trees words files before now kept kept' (words_refused fault) no_memory calm one two =
-    inr refl
+    inr (inl refl)
 one_cause_lem one_fault never_both one_trees words files before now kept kept' (words_refused fault) (ran project' world') calm one two =
     absurd (refused-not_asked words two.read.asked (inl (fault, one.1)) two.read.asks)
 one_cause_lem one_fault never_both one_trees words files before now kept kept' (workers_refused index) (words_refused fault') calm one two =
@@ -266,7 +282,7 @@ one_cause_lem one_fault never_both one_trees words files before now kept kept' (
 one_cause_lem one_fault never_both one_trees words files before now kept kept' (workers_refused index) checked calm one two =
     absurd (refused-not_asked words two.1.read.asked (inr (inl (index, one.1))) two.1.read.asks)
 one_cause_lem one_fault never_both one_trees words files before now kept kept' (workers_refused index) no_memory calm one two =
-    inr refl
+    inr (inl refl)
 one_cause_lem one_fault never_both one_trees words files before now kept kept' (workers_refused index) (ran project' world') calm one two =
     absurd (refused-not_asked words two.read.asked (inr (inl (index, one.1))) two.read.asks)
 one_cause_lem one_fault never_both one_trees words files before now kept kept' order_not_built (words_refused fault') calm one two =
@@ -284,7 +300,7 @@ one_cause_lem one_fault never_both one_trees words files before now kept kept' o
 one_cause_lem one_fault never_both one_trees words files before now kept kept' order_not_built checked calm one two =
     absurd (refused-not_asked words two.1.read.asked (inr (inr one.1)) two.1.read.asks)
 one_cause_lem one_fault never_both one_trees words files before now kept kept' order_not_built no_memory calm one two =
-    inr refl
+    inr (inl refl)
 one_cause_lem one_fault never_both one_trees words files before now kept kept' order_not_built (ran project' world') calm one two =
     absurd (refused-not_asked words two.read.asked (inr (inr one.1)) two.read.asks)
 one_cause_lem one_fault never_both one_trees words files before now kept kept' (not_fetched f number name) (words_refused fault') calm one two =
@@ -302,7 +318,7 @@ one_cause_lem one_fault never_both one_trees words files before now kept kept' (
 one_cause_lem one_fault never_both one_trees words files before now kept kept' (not_fetched f number name) checked calm one two =
     absurd (not_all words files before now number f name two.1.contents calm one.1 one.2 two.1.read)
 one_cause_lem one_fault never_both one_trees words files before now kept kept' (not_fetched f number name) no_memory calm one two =
-    inr refl
+    inr (inl refl)
 one_cause_lem one_fault never_both one_trees words files before now kept kept' (not_fetched f number name) (ran project' world') calm one two =
     absurd (not_all words files before now number f name two.contents calm one.1 one.2 two.read)
 one_cause_lem one_fault never_both one_trees words files before now kept kept' (source_refused name source fault offset) (words_refused fault') calm one two =
@@ -320,7 +336,7 @@ one_cause_lem one_fault never_both one_trees words files before now kept kept' (
 one_cause_lem one_fault never_both one_trees words files before now kept kept' (source_refused name source fault offset) checked calm one two =
     absurd (refused-not_compiled never_both words files name source fault offset two.1.contents one.1 two.1.read two.1.compiled)
 one_cause_lem one_fault never_both one_trees words files before now kept kept' (source_refused name source fault offset) no_memory calm one two =
-    inr refl
+    inr (inl refl)
 one_cause_lem one_fault never_both one_trees words files before now kept kept' (source_refused name source fault offset) (ran project' world') calm one two =
     absurd (refused-not_compiled never_both words files name source fault offset two.contents one.1 two.read two.compiled.compiled)
 one_cause_lem one_fault never_both one_trees words files before now kept kept' (form_refused name) (words_refused fault') calm one two =
@@ -338,7 +354,7 @@ one_cause_lem one_fault never_both one_trees words files before now kept kept' (
 one_cause_lem one_fault never_both one_trees words files before now kept kept' (form_refused name) checked calm one two =
     absurd (command_clash words (Some files) one.1.contents two.1.contents one.1.read two.1.read one.1.runs two.1.checks)
 one_cause_lem one_fault never_both one_trees words files before now kept kept' (form_refused name) no_memory calm one two =
-    inr refl
+    inr (inl refl)
 one_cause_lem one_fault never_both one_trees words files before now kept kept' (form_refused name) (ran project' world') calm one two =
     absurd (form_clash one_trees two.contents one.1.contents project' (all_contents words files two.contents one.1.contents two.read one.1.read) two.compiled one.1.refused)
 one_cause_lem one_fault never_both one_trees words files before now kept kept' checked (words_refused fault') calm one two =
@@ -356,10 +372,10 @@ one_cause_lem one_fault never_both one_trees words files before now kept kept' c
 one_cause_lem one_fault never_both one_trees words files before now kept kept' checked checked calm one two =
     inl refl
 one_cause_lem one_fault never_both one_trees words files before now kept kept' checked no_memory calm one two =
-    inr refl
+    inr (inl refl)
 one_cause_lem one_fault never_both one_trees words files before now kept kept' checked (ran project' world') calm one two =
     absurd (command_clash words (Some files) two.contents one.1.contents two.read one.1.read two.runs one.1.checks)
-one_cause_lem one_fault never_both one_trees words files before now kept kept' no_memory other calm one two = inr refl
+one_cause_lem one_fault never_both one_trees words files before now kept kept' no_memory other calm one two = inr (inl refl)
 one_cause_lem one_fault never_both one_trees words files before now kept kept' (ran project world) (words_refused fault') calm one two =
     absurd (refused-not_asked words one.read.asked (inl (fault', two.1)) one.read.asks)
 one_cause_lem one_fault never_both one_trees words files before now kept kept' (ran project world) (workers_refused index') calm one two =
@@ -375,6 +391,6 @@ one_cause_lem one_fault never_both one_trees words files before now kept kept' (
 one_cause_lem one_fault never_both one_trees words files before now kept kept' (ran project world) checked calm one two =
     absurd (command_clash words (Some files) one.contents two.1.contents one.read two.1.read one.runs two.1.checks)
 one_cause_lem one_fault never_both one_trees words files before now kept kept' (ran project world) no_memory calm one two =
-    inr refl
+    inr (inl refl)
 one_cause_lem one_fault never_both one_trees words files before now kept kept' (ran project world) (ran project' world') calm one two =
-    inr refl
+    inr (inr (project, refl, ap Some (sym (same_project one_trees words files kept kept' project project' world world' one two))))

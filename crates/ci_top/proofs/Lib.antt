@@ -4,3 +4,4 @@ pub mod Fetching
 pub mod Deciding
 pub mod Causes
 pub mod Plain
+pub mod Doing

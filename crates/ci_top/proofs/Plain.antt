@@ -1,20 +1,21 @@
 -- The plain clauses of the top call follow from its contract.
-use Rattle.std.proofs.Common.{◌≡◌, ℕ, false, true, List, Option, Some, Ok, Err, refl, sym, ◌∙◌, ap, subst, arith, ◌⊎◌, inl, inr, Bool, cond}
+use Rattle.std.proofs.Common.{◌≡◌, ℕ, false, true, List, Option, None, Some, refl, sym, ◌∙◌, ap, subst, arith, ◌⊎◌, inl, inr}
 use Rattle.std.specs.Io.KnownBytes.{Appends}
 use Rattle.ci_base.specs.declared.limits.Ending.{Ending}
 use Rattle.ci_base.specs.declared.limits.Ending.TheVariants as endings
 use Rattle.ci_outside.specs.Causes.{Rose}
 use Rattle.ci_outside.specs.Shelf.{Files}
 use Rattle.ci_source.specs.Laws.{HaveOneFirstFault, NeverBothMeanings, HaveOneTrees}
+use Rattle.ci_tree.specs.declared.trace_project.TraceProject.{TraceProject}
 use Rattle.ci_words.specs.declared.command.Command.{Command}
 use Rattle.ci_words.specs.declared.command.Command.TheVariants as commands
-use Rattle.ci_words.specs.declared.order.Order.{Order}
 use Rattle.ci_words.proofs.Ordered.{IsOrdered, ordered, check_alone}
 use Rattle.ci_top.specs.declared.decision.FileFault.TheVariants as faults
 use Rattle.ci_top.specs.declared.outcome.Outcome.{Outcome}
-use Rattle.ci_top.specs.Answers.{Answers, Kept, nothing_kept, kept_of, Cause, words_refused, workers_refused, order_not_built, not_fetched, source_refused, form_refused, checked, no_memory, ran, Holds, Fetched, HasAll, IsChecked, status_of, text_of, ending_status, Delivers}
-use Rattle.ci_top.specs.Asked.{command_of, names_of, is_built, is_built_of, AskFor, AreRefused}
+use Rattle.ci_top.specs.Answers.{Answers, Kept, nothing_kept, kept_of, Cause, words_refused, workers_refused, order_not_built, not_fetched, source_refused, form_refused, checked, no_memory, ran, Holds, HasAll, IsChecked, status_of, text_of, ending_status, Delivers}
+use Rattle.ci_top.specs.Asked.{command_of, wanted_of, is_built_of, AskFor, AreRefused}
 use Rattle.ci_top.specs.Defaults.{default_budget}
+use Rattle.ci_top.specs.Fetching.{Fetched}
 use Rattle.ci_top.specs.OneCause.{Agree}
 use Rattle.ci_top.specs.Plain.{CanCheck, CanRunAll, IsApproved, IsReported, IsRunStatus, KeepsNothing}
 use Rattle.ci_top.specs.Work.{work, EndsAs}
@@ -189,18 +190,22 @@ zero_is_done words files before now kept (ran project world) holds e = inl (comm
 no_test : false ≡ true → ⊥
 no_test same = cc
 
+no_project : (project : TraceProject) → None ≡ Some project → ⊥
+no_project project same = cc
+
 -- what agrees with sources that compile
 agree_checked : (kept : Kept) (cause : Cause) → Agree cause checked → (status_of kept cause ≡ 0) ⊎ (status_of kept cause ≡ 6)
 agree_checked kept cause (inl same) = inl (let Family : Cause → Type 0 = λ c. status_of kept c ≡ 0 in subst Family (sym same) refl)
-agree_checked kept (words_refused fault) (inr test) = absurd (no_test test)
-agree_checked kept (workers_refused index) (inr test) = absurd (no_test test)
-agree_checked kept order_not_built (inr test) = absurd (no_test test)
-agree_checked kept (not_fetched fault number name) (inr test) = absurd (no_test test)
-agree_checked kept (source_refused name source fault offset) (inr test) = absurd (no_test test)
-agree_checked kept (form_refused name) (inr test) = absurd (no_test test)
-agree_checked kept checked (inr test) = absurd (no_test test)
-agree_checked kept no_memory (inr test) = inr refl
-agree_checked kept (ran project world) (inr test) = absurd (no_test test)
+agree_checked kept cause (inr (inr (project, one, other))) = absurd (no_project project other)
+agree_checked kept (words_refused fault) (inr (inl test)) = absurd (no_test test)
+agree_checked kept (workers_refused index) (inr (inl test)) = absurd (no_test test)
+agree_checked kept order_not_built (inr (inl test)) = absurd (no_test test)
+agree_checked kept (not_fetched fault number name) (inr (inl test)) = absurd (no_test test)
+agree_checked kept (source_refused name source fault offset) (inr (inl test)) = absurd (no_test test)
+agree_checked kept (form_refused name) (inr (inl test)) = absurd (no_test test)
+agree_checked kept checked (inr (inl test)) = absurd (no_test test)
+agree_checked kept no_memory (inr (inl test)) = inr refl
+agree_checked kept (ran project world) (inr (inl test)) = absurd (no_test test)
 
 -- words that ask to check can be done
 asks_check : (words : List (List ℕ)) (files : Option Files) (can : CanCheck words files) → AskFor words can.asked
@@ -224,7 +229,7 @@ checks_all one_fault never_both one_trees words files before now kept cause hold
     } in
     agree_checked kept cause (one_cause_lem one_fault never_both one_trees words can.told before now kept nothing_kept cause checked calm (subst Held can.tells holds) (refl, is_checked)) where
       Fetches : Option Files → Type 0
-      Fetches f = Fetched f (names_of words can.asked) can.contents
+      Fetches f = Fetched f (wanted_of words can.asked) can.contents
 
 ending_status_of : (ending : Ending) → IsRunStatus (ending_status ending)
 ending_status_of endings.Finished = inl refl
@@ -248,8 +253,8 @@ runs_all never_both one_trees words told before now kept (ran project world) hol
 runs_told : NeverBothMeanings → HaveOneTrees → (words : List (List ℕ)) (files : Option Files) (before now : ℕ) (kept : Kept) (cause : Cause) → Holds words files before now kept cause → CanRunAll words files → (Rose before now → ⊥) → IsRunStatus (status_of kept cause) ⊎ (status_of kept cause ≡ 6)
 runs_told never_both one_trees words files before now kept cause holds can calm =
     let Held : Option Files → Type 0 = λ f. Holds words f before now kept cause in
-    let Can : Option Files → Type 0 = λ f. Fetched f (names_of words can.asked) can.contents in
-    let there : Fetched (Some can.told) (names_of words can.asked) can.contents = subst Can can.tells can.there in
+    let Can : Option Files → Type 0 = λ f. Fetched f (wanted_of words can.asked) can.contents in
+    let there : Fetched (Some can.told) (wanted_of words can.asked) can.contents = subst Can can.tells can.there in
     let told : CanRunAll words (Some can.told) = record { asked = can.asked; asks = can.asks; runs = can.runs; told = can.told; tells = refl; contents = can.contents; there = there; project = can.project; compiled = can.compiled } in
     runs_all never_both one_trees words can.told before now kept cause (subst Held can.tells holds) told (record { asked = can.asked; asks = can.asks; fetched = there }) can.runs calm
 

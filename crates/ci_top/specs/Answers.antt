@@ -1,8 +1,8 @@
 -- Why the top call answers what it answers.
 --
--- Each answer has a cause that holds, and its text and status are those of its cause, unless a put failed. A later order
--- adds a cause and its row in each table, and changes nothing else.
-use Rattle.std.specs.Prelude.{◌≡◌, ℕ, ◌+◌, ◌≤◌, List, [], ◌∷◌, ◌++◌, length, codes, decimal, Option, Some, None, Err, ◌⊎◌, slice_get}
+-- Each answer has a cause that holds, and its text and status are those of its cause, unless a put failed. An order that is built
+-- later adds its causes, and their rows in each table.
+use Rattle.std.specs.Prelude.{◌≡◌, ℕ, List, [], ◌++◌, codes, decimal, Option, Some, None, Err, ◌⊎◌, slice_get}
 use Rattle.std.specs.Io.KnownBytes.{Appends}
 use Rattle.ci_base.specs.declared.entry.Entry.{Entry}
 use Rattle.ci_base.specs.declared.limits.Ending.{Ending}
@@ -11,7 +11,7 @@ use Rattle.ci_base.specs.declared.list.Loose.{Loose}
 use Rattle.ci_base.specs.declared.position.Position.{Position}
 use Rattle.ci_base.specs.Places.{place}
 use Rattle.ci_outside.specs.Causes.{Rose}
-use Rattle.ci_outside.specs.Shelf.{Files, HasFile, LacksFile, HasLongFile}
+use Rattle.ci_outside.specs.Shelf.{Files, LacksFile, HasLongFile}
 use Rattle.ci_outside.specs.Sink.{AppendsFront}
 use Rattle.ci_top.specs.declared.decision.FileFault.{FileFault}
 use Rattle.ci_top.specs.declared.decision.FileFault.TheVariants as faults
@@ -29,8 +29,9 @@ use Rattle.ci_words.specs.declared.fault.WordFault.{WordFault}
 use Rattle.ci_words.specs.declared.order.Order.{Order}
 use Rattle.ci_words.specs.Fault.{text_of as word_fault_text}
 use Rattle.ci_words.specs.Order.{Orders}
-use Rattle.ci_top.specs.Asked.{names_of, AskFor, AskForWorkers, AskForUnbuilt}
-use Rattle.ci_top.specs.Defaults.{default_script, default_budget, source_limit}
+use Rattle.ci_top.specs.Asked.{names_of, wanted_of, AskFor, AskForWorkers, AskForUnbuilt}
+use Rattle.ci_top.specs.Defaults.{default_script, default_budget}
+use Rattle.ci_top.specs.Fetching.{Wanted, Fetched, IsNext}
 use Rattle.ci_top.specs.Report.{report}
 use Rattle.ci_top.specs.Work.{FitsLoose, Ends}
 use Rattle.ci_top.specs.World.{World, Run}
@@ -48,33 +49,17 @@ kept_of outcome = record { history = outcome.history.entries; loose = outcome.lo
 abbrev pub nothing_kept : Kept
 nothing_kept = record { history = []; loose = []; ending = endings.NotRun }
 
--- the files of these names have these contents, if the shelf tells, and each is within the limit
-abbrev pub Fetched : Option Files → List (List ℕ) → List (List ℕ) → Type 0
-Fetched files [] [] = Unit {0}
-Fetched files (name ∷ names) (content ∷ contents) = HasFile files name content × (length content ≤ source_limit) × Fetched files names contents
-Fetched files [] (content ∷ contents) = ⊥
-Fetched files (name ∷ names) [] = ⊥
-
--- of these names, the one of this number, from 1, is the next to be fetched: the files of those before it were fetched
-pub record IsNext (files : Option Files) (names : List (List ℕ)) (number : ℕ) (name : List ℕ) : Type 0 where
-  pub before : List (List ℕ)
-  pub after : List (List ℕ)
-  pub names_are : names ≡ before ++ name ∷ after
-  pub number_is : number ≡ length before + 1
-  pub contents : List (List ℕ)
-  pub fetched : Fetched files before contents
-
--- the words ask for an order, and its file of this number and name is the next to be fetched
-pub record ComesTo (words : List (List ℕ)) (files : Option Files) (number : ℕ) (name : List ℕ) : Type 0 where
+-- the words ask for an order, and of the files that it wants, this one of this number is the next to be fetched
+pub record ComesTo (words : List (List ℕ)) (files : Option Files) (number : ℕ) (file : Wanted) : Type 0 where
   pub asked : Order
   pub asks : AskFor words asked
-  pub next : IsNext files (names_of words asked) number name
+  pub next : IsNext files (wanted_of words asked) number file
 
 -- the words ask for an order, and all its files were fetched
 pub record HasAll (words : List (List ℕ)) (files : Option Files) (contents : List (List ℕ)) : Type 0 where
   pub asked : Order
   pub asks : AskFor words asked
-  pub fetched : Fetched files (names_of words asked) contents
+  pub fetched : Fetched files (wanted_of words asked) contents
 
 -- the sources compile
 abbrev pub Compiles : List (List ℕ) → Type 0
@@ -134,26 +119,26 @@ pub data Cause : Type 0 where
   words_refused : (fault : WordFault) → Cause
   workers_refused : (index : ℕ) → Cause
   order_not_built : Cause
-  not_fetched : (fault : FileFault) → (number : ℕ) → (name : List ℕ) → Cause
+  not_fetched : (fault : FileFault) → (number : ℕ) → (file : Wanted) → Cause
   source_refused : (name : List ℕ) → (source : List ℕ) → (fault : Fault) → (offset : ℕ) → Cause
   form_refused : (name : List ℕ) → Cause
   checked : Cause
   no_memory : Cause
   ran : (project : TraceProject) → (world : World) → Cause
 
--- a file isn't fetched: none has its name, the shelf's faults rose, or it is longer than the limit
-abbrev pub FaultHolds : Option Files → ℕ → ℕ → FileFault → List ℕ → Type 0
-FaultHolds files before now faults.Absent name = LacksFile files name
-FaultHolds files before now faults.ReadFault name = Rose before now
-FaultHolds files before now faults.TooLong name = HasLongFile files name source_limit
+-- a file isn't fetched: none has its name, the shelf's faults rose, or it is longer than its limit
+abbrev pub FaultHolds : Option Files → ℕ → ℕ → FileFault → Wanted → Type 0
+FaultHolds files before now faults.Absent file = LacksFile files file.name
+FaultHolds files before now faults.ReadFault file = Rose before now
+FaultHolds files before now faults.TooLong file = HasLongFile files file.name file.limit
 
 -- the cause holds; nothing is kept but of a run
 abbrev pub Holds : List (List ℕ) → Option Files → ℕ → ℕ → Kept → Cause → Type 0
 Holds words files before now kept (words_refused fault) = (kept ≡ nothing_kept) × Orders words (Err fault)
 Holds words files before now kept (workers_refused index) = (kept ≡ nothing_kept) × AskForWorkers words index
 Holds words files before now kept order_not_built = (kept ≡ nothing_kept) × AskForUnbuilt words
-Holds words files before now kept (not_fetched fault number name) =
-    (kept ≡ nothing_kept) × ComesTo words files number name × FaultHolds files before now fault name
+Holds words files before now kept (not_fetched fault number file) =
+    (kept ≡ nothing_kept) × ComesTo words files number file × FaultHolds files before now fault file
 Holds words files before now kept (source_refused name source fault offset) = (kept ≡ nothing_kept) × IsRefused words files name source fault offset
 Holds words files before now kept (form_refused name) = (kept ≡ nothing_kept) × IsOfNoForm words files name
 Holds words files before now kept checked = (kept ≡ nothing_kept) × IsChecked words files
@@ -176,7 +161,7 @@ abbrev pub status_of : Kept → Cause → ℕ
 status_of kept (words_refused fault) = 2
 status_of kept (workers_refused index) = 2
 status_of kept order_not_built = 2
-status_of kept (not_fetched fault number name) = fault_status fault
+status_of kept (not_fetched fault number file) = fault_status fault
 status_of kept (source_refused name source fault offset) = 1
 status_of kept (form_refused name) = 1
 status_of kept checked = 0
@@ -195,6 +180,10 @@ words_text fault = codes "words " ++ decimal fault.index ++ codes ": " ++ word_f
 abbrev pub out_of_range : ℕ → WordFault
 out_of_range index = record { number = 6; index = index }
 
+-- what is told of a file that isn't fetched
+abbrev pub file_text : FileFault → ℕ → List ℕ → List ℕ
+file_text fault number name = codes "file " ++ decimal number ++ codes " " ++ fault_text fault ++ codes ": " ++ name ++ codes "\n"
+
 -- what is told of a source behind its name: the line and the column, and the fault there
 abbrev pub told_text : Position → Fault → List ℕ
 told_text at fault = codes ":" ++ decimal at.line ++ codes ":" ++ decimal at.column ++ codes ": " ++ source_fault_text fault ++ codes "\n"
@@ -208,8 +197,7 @@ abbrev pub text_of : Kept → Cause → List ℕ
 text_of kept (words_refused fault) = words_text fault
 text_of kept (workers_refused index) = words_text (out_of_range index)
 text_of kept order_not_built = codes "words 0: form not built\n"
-text_of kept (not_fetched fault number name) =
-    codes "file " ++ decimal number ++ codes " " ++ fault_text fault ++ codes ": " ++ name ++ codes "\n"
+text_of kept (not_fetched fault number file) = file_text fault number file.name
 text_of kept (source_refused name source fault offset) = name ++ told_text (place source offset) fault
 text_of kept (form_refused name) = name ++ told_text start source_faults.NotBuilt
 text_of kept checked = codes "ok\n"

@@ -1,5 +1,5 @@
 -- What becomes of an order: what is kept of it, its text and its status.
-use Rattle.std.specs.Prelude.{◌≡◌, ◌≢◌, ℕ, List, [], ◌++◌, codes, Option, None, Some, Err, ◌⊎◌, slice_get}
+use Rattle.std.specs.Prelude.{◌≡◌, ℕ, List, [], ◌++◌, Option, None, Some, Err, ◌⊎◌, slice_get}
 use Rattle.std.specs.Borrow.{Bor}
 use Rattle.ci_base.specs.Places.{place}
 use Rattle.ci_base.specs.declared.position.Position.{Position}
@@ -11,15 +11,16 @@ use Rattle.ci_source.specs.Compiling.{HasFirstFault}
 use Rattle.ci_source.specs.FirstForm.{files_form}
 use Rattle.ci_tree.specs.declared.trace_project.TraceProject.{TraceProject}
 use Rattle.ci_tree.specs.Tree.{Item}
-use Rattle.ci_words.specs.declared.command.Command.{Command}
-use Rattle.ci_words.specs.declared.command.Command.TheVariants as commands
 use Rattle.ci_words.specs.Order.{Orders}
+use Rattle.ci_top.specs.declared.accept.Job.{Job}
+use Rattle.ci_top.specs.declared.accept.Job.TheVariants as jobs
 use Rattle.ci_top.specs.declared.decision.Decision.{Decision}
 use Rattle.ci_top.specs.declared.decision.Decision.TheVariants as decisions
 use Rattle.ci_top.specs.declared.decision.FileFault.TheVariants as faults
 use Rattle.ci_top.specs.declared.run.Ran.{Ran}
-use Rattle.ci_top.specs.Answers.{Kept, nothing_kept, Cause, words_refused, order_not_built, not_fetched, form_refused, checked, no_memory, Holds, FaultHolds, IsNext, Compiles, RunsAs, HasNoForm, status_of, text_of, told_text, out_of_range, ending_status}
+use Rattle.ci_top.specs.Answers.{Kept, nothing_kept, Cause, words_refused, order_not_built, form_refused, checked, no_memory, Holds, FaultHolds, Compiles, RunsAs, HasNoForm, status_of, text_of, told_text, file_text, out_of_range, ending_status, fault_status}
 use Rattle.ci_top.specs.Asked.{AskForWorkers, AskForUnbuilt}
+use Rattle.ci_top.specs.Fetching.{Wanted, IsNext}
 use Rattle.ci_top.specs.Ran.{RanWhole}
 use Rattle.ci_top.specs.Report.{CanTell, report_text}
 
@@ -42,7 +43,7 @@ decision_kept (decisions.Ran r) = kept_of_run r
 abbrev pub decision_text : Decision → List ℕ
 decision_text (decisions.WordsRefused fault) = text_of nothing_kept (words_refused fault)
 decision_text decisions.OrderNotBuilt = text_of nothing_kept order_not_built
-decision_text (decisions.NotFetched fault number name) = text_of nothing_kept (not_fetched fault number name.now)
+decision_text (decisions.NotFetched fault number name) = file_text fault number name.now
 decision_text (decisions.SourceRefused name fault at) = name.now ++ told_text at fault
 decision_text (decisions.FormRefused name) = text_of nothing_kept (form_refused name.now)
 decision_text decisions.Checked = text_of nothing_kept checked
@@ -53,7 +54,7 @@ decision_text (decisions.Ran r) = report_text r.history.entries r.end
 abbrev pub decision_status : Decision → ℕ
 decision_status (decisions.WordsRefused fault) = status_of nothing_kept (words_refused fault)
 decision_status decisions.OrderNotBuilt = status_of nothing_kept order_not_built
-decision_status (decisions.NotFetched fault number name) = status_of nothing_kept (not_fetched fault number name.now)
+decision_status (decisions.NotFetched fault number name) = fault_status fault
 decision_status (decisions.SourceRefused name fault at) = 1
 decision_status (decisions.FormRefused name) = status_of nothing_kept (form_refused name.now)
 decision_status decisions.Checked = status_of nothing_kept checked
@@ -92,11 +93,12 @@ decision_of_fetch fetches.Failed number name = decisions.NotFetched faults.ReadF
 decision_of_fetch fetches.TooLong number name = decisions.NotFetched faults.TooLong number name
 decision_of_fetch fetches.Memory number name = decisions.NoMemory
 
--- of the files of these names, the first that isn't fetched is told; or there was no memory
-abbrev pub StopsFetching : Option Files → ℕ → ℕ → List (List ℕ) → Decision → Type 0
-StopsFetching files before now names (decisions.NotFetched fault number name) = IsNext files names number name.now × FaultHolds files before now fault name.now
-StopsFetching files before now names decisions.NoMemory = Unit {0}
-StopsFetching files before now names _ = ⊥
+-- of the wanted files, the first that isn't fetched is told; or there was no memory
+abbrev pub StopsFetching : Option Files → ℕ → ℕ → List Wanted → Decision → Type 0
+StopsFetching files before now wanted (decisions.NotFetched fault number name) =
+    (file : Wanted) × (file.name ≡ name.now) × IsNext files wanted number file × FaultHolds files before now fault file
+StopsFetching files before now wanted decisions.NoMemory = Unit {0}
+StopsFetching files before now wanted _ = ⊥
 
 -- the first fault of the sources is told, by the name of its file and its place there
 pub record TellsFault (names sources : List (List ℕ)) (name : List ℕ) (fault : Fault) (at : Position) : Type 0 where
@@ -108,14 +110,14 @@ pub record TellsFault (names sources : List (List ℕ)) (name : List ℕ) (fault
   pub refused : HasFirstFault sources file fault offset
   pub at_is : at ≡ place source offset
 
--- what becomes of a command over the sources of the files of these names
-abbrev pub OfSources : Command → List (List ℕ) → List (List ℕ) → Decision → Type 0
-OfSources command names sources (decisions.SourceRefused name fault at) = TellsFault names sources name.now fault at
-OfSources command names sources (decisions.FormRefused name) = (command ≢ commands.Check) × (slice_get names 0 ≡ Some name.now) × HasNoForm sources
-OfSources command names sources decisions.Checked = (command ≡ commands.Check) × Compiles sources
-OfSources command names sources decisions.NoMemory = Unit {0}
-OfSources command names sources (decisions.Ran r) = (command ≢ commands.Check) × (project : TraceProject) × RunsAs sources project × RanWhole project r
-OfSources command names sources _ = ⊥
+-- what becomes of a job over the sources of the files of these names
+abbrev pub OfSources : Job → List (List ℕ) → List (List ℕ) → Decision → Type 0
+OfSources job names sources (decisions.SourceRefused name fault at) = TellsFault names sources name.now fault at
+OfSources job names sources (decisions.FormRefused name) = (job ≡ jobs.Run) × (slice_get names 0 ≡ Some name.now) × HasNoForm sources
+OfSources job names sources decisions.Checked = (job ≡ jobs.Check) × Compiles sources
+OfSources job names sources decisions.NoMemory = Unit {0}
+OfSources job names sources (decisions.Ran r) = (job ≡ jobs.Run) × (project : TraceProject) × RunsAs sources project × RanWhole project r
+OfSources job names sources _ = ⊥
 
 -- what becomes of a run of these trees, where the first file has this name
 abbrev pub OfRun : List ℕ → List (List Item) → Decision → Type 0
@@ -124,10 +126,7 @@ OfRun first trees decisions.NoMemory = Unit {0}
 OfRun first trees (decisions.Ran r) = (project : TraceProject) × (files_form trees ≡ Some project) × RanWhole project r
 OfRun first trees _ = ⊥
 
--- what becomes of a command over these trees
-abbrev pub OfTrees : Command → List ℕ → List (List Item) → Decision → Type 0
-OfTrees commands.Check first trees decision = decision ≡ decisions.Checked
-OfTrees commands.Run first trees decision = OfRun first trees decision
-OfTrees commands.List first trees decision = OfRun first trees decision
-OfTrees commands.Replay first trees decision = OfRun first trees decision
-OfTrees commands.Make first trees decision = OfRun first trees decision
+-- what becomes of a job over these trees
+abbrev pub OfTrees : Job → List ℕ → List (List Item) → Decision → Type 0
+OfTrees jobs.Run first trees decision = OfRun first trees decision
+OfTrees jobs.Check first trees decision = decision ≡ decisions.Checked

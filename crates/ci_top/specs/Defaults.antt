@@ -1,5 +1,6 @@
--- What holds for a run where the words don't say otherwise, and the limits of what is fetched.
+-- What holds for a run where the words don't say otherwise.
 use Rattle.std.specs.Prelude.{ℕ, false, List, [], ◌∷◌, codes}
+use Rattle.ci_base.specs.declared.bounds.TheConstants.{GIVEN_BUDGET}
 use Rattle.ci_base.specs.declared.event.Event.{Event}
 use Rattle.ci_base.specs.declared.event.EventKind.TheVariants as events
 
@@ -9,8 +10,4 @@ default_script = record { soon = false; what = events.Run (codes "Main") [] } �
 
 -- the work that a run may take
 abbrev pub default_budget : ℕ
-default_budget = 10000000
-
--- the bytes of a source
-abbrev pub source_limit : ℕ
-source_limit = 262144
+default_budget = GIVEN_BUDGET

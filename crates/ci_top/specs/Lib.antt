@@ -5,6 +5,7 @@ pub mod World
 pub mod Work
 pub mod History
 pub mod Report
+pub mod Fetching
 pub mod Asked
 pub mod Defaults
 pub mod Answers
@@ -12,3 +13,4 @@ pub mod Ran
 pub mod Decisions
 pub mod OneCause
 pub mod Plain
+pub mod Doing

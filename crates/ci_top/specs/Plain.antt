@@ -8,8 +8,9 @@ use Rattle.ci_words.specs.declared.command.Command.TheVariants as commands
 use Rattle.ci_words.specs.declared.order.Order.{Order}
 use Rattle.ci_words.specs.Order.{Orders}
 use Rattle.ci_top.specs.declared.outcome.Outcome.{Outcome}
-use Rattle.ci_top.specs.Answers.{Compiles, Fetched, IsChecked, IsRun, RunsAs, kept_of}
-use Rattle.ci_top.specs.Asked.{AskFor, names_of}
+use Rattle.ci_top.specs.Answers.{Compiles, IsChecked, IsRun, RunsAs, kept_of}
+use Rattle.ci_top.specs.Asked.{AskFor, wanted_of}
+use Rattle.ci_top.specs.Fetching.{Fetched}
 use Rattle.ci_top.specs.Report.{report}
 use Rattle.ci_top.specs.World.{World}
 
@@ -40,7 +41,7 @@ pub record CanCheck (words : List (List ℕ)) (files : Option Files) : Type 0 wh
   pub told : Files
   pub tells : files ≡ Some told
   pub contents : List (List ℕ)
-  pub there : Fetched files (names_of words asked) contents
+  pub there : Fetched files (wanted_of words asked) contents
   pub compiled : Compiles contents
 
 -- The words ask for a run that can be done; the shelf tells its files and has each of these, within the limit; and their sources
@@ -52,7 +53,7 @@ pub record CanRunAll (words : List (List ℕ)) (files : Option Files) : Type 0 w
   pub told : Files
   pub tells : files ≡ Some told
   pub contents : List (List ℕ)
-  pub there : Fetched files (names_of words asked) contents
+  pub there : Fetched files (wanted_of words asked) contents
   pub project : TraceProject
   pub compiled : RunsAs contents project
 

@@ -3,6 +3,7 @@ use Rattle.std.specs.Prelude.{◌≡◌, ℕ, ℤ, ◌+◌, Bool, true, false, �
 use Rattle.std.specs.List.{list_all, list_any}
 use Rattle.std.specs.Option.{option_map_or}
 use Rattle.std.specs.Str.{str_eq_ignore_ascii_case}
+use Rattle.ci_base.specs.declared.bounds.TheConstants.{MOST_LIVE_TASKS, MOST_TASKS}
 use Rattle.ci_base.specs.declared.event.Event.{Event}
 use Rattle.ci_base.specs.declared.event.EventKind.{EventKind}
 use Rattle.ci_base.specs.declared.event.EventKind.TheVariants as events
@@ -95,16 +96,9 @@ apply project shared task _ = None
 abbrev pub refused : ℤ → ℕ → EventReply
 refused value code = record { value = value; code = code }
 
--- the most tasks that can be live at once, and that a run can start
-abbrev pub live_limit : ℕ
-live_limit = 64
-
-abbrev pub task_limit : ℕ
-task_limit = 4096
-
--- no further task can be started
+-- no further task can be started: too many are live, or were started
 abbrev pub is_full : Shared → Bool
-is_full shared = nat_le live_limit (count_by is_live shared.tasks) || nat_le task_limit (length shared.tasks)
+is_full shared = nat_le MOST_LIVE_TASKS (count_by is_live shared.tasks) || nat_le MOST_TASKS (length shared.tasks)
 
 -- the argument list has no arguments: it is empty, or spaces alone
 abbrev pub is_empty_list : List ℕ → Bool

@@ -1,7 +1,7 @@
 //! Which orders are accepted.
-ghost use Rattle.std.specs.Prelude.{◌≡◌, ◌<◌, false, Some, IfOk, IfErr, IfSome, IsNone, IsSome};
+ghost use Rattle.std.specs.Prelude.{◌≡◌, ◌<◌, true, false, Some, IfOk, IfErr, IfSome, IsNone, IsSome};
 ghost use Rattle.ci_words.specs.Bounds.{IsInBounds};
-ghost use Rattle.ci_top.specs.Asked.{AskFor, is_plain as plain, is_built as built};
+ghost use Rattle.ci_top.specs.Asked.{AskFor, command_of_job, is_plain as plain, is_built};
 ghost use Rattle.ci_top.specs.Decisions.{RefusesWords};
 
 use crate::decision::Decision;
@@ -11,32 +11,46 @@ use ci_words::{Command, Order, WordFault, read_words};
 /// The number of the fault of words whose number is out of its range.
 const OUT_OF_RANGE: u8 = 6;
 
+/// What can be done: the commands that are built.
+#[derive(Clone, Copy, Debug, PartialEq, Eq)]
+pub(crate) enum Job {
+    Run,
+    Check,
+}
+
+/// An order that can be done, and what is to be done for it.
+#[derive(Debug, Drop)]
+pub(crate) struct Accepted {
+    pub(crate) order: Order,
+    pub(crate) job: Job,
+}
+
 /// The order that the words ask for, where it is built and has no worker threads; otherwise what becomes of it.
-pub(crate) fn accept(words: &[Bytes]) -> Result<Order, Decision<'_>>
-    ensures asked { IfOk result (λ order. AskFor words.now order) }
-    ensures within { IfOk result (λ order. IsInBounds words.now order) }
+pub(crate) fn accept(words: &[Bytes]) -> Result<Accepted, Decision<'_>>
+    ensures asked { IfOk result (λ accepted. AskFor words.now accepted.order) }
+    ensures within { IfOk result (λ accepted. IsInBounds words.now accepted.order) }
+    ensures job { IfOk result (λ accepted. accepted.order.command ≡ command_of_job accepted.job) }
     ensures refused { IfErr result (λ decision. RefusesWords words.now decision) }
 {
     let order = match read_words(words) {
         Ok(order) => order,
         Err(fault) => return Err(Decision::WordsRefused(fault)),
     };
-    if let Some(index) = workers_place(&order) {
+    if let Some(index) = workers_index(&order) {
         let number = OUT_OF_RANGE;
         return Err(Decision::WordsRefused(WordFault { number, index }));
     }
-    if is_built(&order) {
-        Ok(order)
-    } else {
-        Err(Decision::OrderNotBuilt)
+    match job_of(&order) {
+        Some(job) => Ok(Accepted { order, job }),
+        None => Err(Decision::OrderNotBuilt),
     }
 }
 
 /// The index of the number of worker threads, where there are to be some.
-fn workers_place(order: &Order) -> Option<u32>
+fn workers_index(order: &Order) -> Option<u32>
     requires { 0 < order.now.limits.workers → IsSome order.now.workers_at }
     ensures some { IfSome result (λ index. 0 < order.now.limits.workers) }
-    ensures place { IfSome result (λ index. order.now.workers_at ≡ Some index) }
+    ensures index { IfSome result (λ index. order.now.workers_at ≡ Some index) }
     ensures none { IsNone result → order.now.limits.workers ≡ 0 }
 {
     if order.limits.workers == 0 {
@@ -45,14 +59,16 @@ fn workers_place(order: &Order) -> Option<u32>
     order.workers_at
 }
 
-/// Whether the order is built: `check`, and `run` without options but for worker threads.
-fn is_built(order: &Order) -> bool
-    ensures { result ≡ built order.now }
+/// What is to be done for the order, where that is built: `check`, and `run` without options but for worker threads.
+fn job_of(order: &Order) -> Option<Job>
+    ensures built { IfSome result (λ job. is_built order.now ≡ true) }
+    ensures job { IfSome result (λ job. order.now.command ≡ command_of_job job) }
+    ensures unbuilt { IsNone result → is_built order.now ≡ false }
 {
     match order.command {
-        Command::Run => is_plain(order),
-        Command::Check => true,
-        Command::List | Command::Replay | Command::Make => false,
+        Command::Run if is_plain(order) => Some(Job::Run),
+        Command::Check => Some(Job::Check),
+        Command::Run | Command::List | Command::Replay | Command::Make => None,
     }
 }
 

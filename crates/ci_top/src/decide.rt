@@ -1,19 +1,20 @@
 //! Doing an order: what becomes of it, before anything is told.
 ghost use Rattle.std.specs.Prelude.{◌≡◌, ◌<◌, ◌≤◌, length, map, All};
+ghost use Rattle.ci_base.specs.declared.bounds.TheConstants.{MOST_FILES, MOST_SOURCE_BYTES};
 ghost use Rattle.ci_source.specs.Telling.{IsRefusedAs};
 ghost use Rattle.ci_tree.specs.Seen.{items_of};
-ghost use Rattle.ci_top.specs.Asked.{words_at};
+ghost use Rattle.ci_top.specs.Asked.{AreRefused, words_at};
 ghost use Rattle.ci_top.specs.Decisions.{Decided, OfRun, OfSources, OfTrees};
 
-use crate::accept::accept;
+use crate::accept::{Job, accept};
 use crate::decision::Decision;
 use crate::fetch::{fetch_all, name_of};
 use crate::run::run;
+use ci_base::bounds::MOST_SOURCE_BYTES;
 use ci_base::{Bytes, place_of};
 use ci_outside::Shelf;
 use ci_source::{Fault, FormFault, SourceFault, first_form, read_sources};
 use ci_tree::FileTrees;
-use ci_words::Command;
 use std::alloc::Global;
 
 /// Reads the words, fetches the files that they name, reads these, and runs them or says that they compile. The first refusal ends
@@ -21,42 +22,43 @@ use std::alloc::Global;
 pub(crate) fn decide<'w, S: Shelf>(alloc: Global, words: &'w [Bytes], shelf: &mut S) -> Decision<'w>
     ensures decided { Decided words.now (S.files shelf.old) (S.faults shelf.old) (S.faults shelf.new) result }
     ensures kept { S.files shelf.new ≡ S.files shelf.old }
+    ensures unfetched { AreRefused words.now → shelf.new ≡ shelf.old }
 {
-    let order = match accept(words) {
-        Ok(order) => order,
+    let accepted = match accept(words) {
+        Ok(accepted) => accepted,
         Err(decision) => return decision,
     };
-    let places = order.files.indexes();
-    match fetch_all(alloc, words, places, shelf) {
-        Ok(contents) => read_all(alloc, order.command, words, places, contents.as_slice()),
+    let indexes = accepted.order.files.indexes();
+    match fetch_all(alloc, words, indexes, MOST_SOURCE_BYTES, shelf) {
+        Ok(contents) => read_all(alloc, accepted.job, words, indexes, contents.as_slice()),
         Err(decision) => decision,
     }
 }
 
-/// Reads the sources, and does the command over them. The words at these indexes are the names of their files.
+/// Reads the sources, and does the job over them. The words at these indexes are the names of their files.
 fn read_all<'w>(
     alloc: Global,
-    command: Command,
+    job: Job,
     words: &'w [Bytes],
-    places: &[u32],
+    indexes: &[u32],
     sources: &[Bytes],
 ) -> Decision<'w>
-    requires places { All (λ at. at < length words.now) places.now }
-    requires some { 0 < length places.now }
-    requires same { length sources.now ≡ length places.now }
-    requires few { length sources.now ≤ 64 }
-    requires within { All (λ source. length source ≤ 262144) sources.now }
-    ensures { OfSources command (words_at words.now places.now) sources.now result }
+    requires indexes { All (λ at. at < length words.now) indexes.now }
+    requires some { 0 < length indexes.now }
+    requires same { length sources.now ≡ length indexes.now }
+    requires few { length sources.now ≤ MOST_FILES }
+    requires within { All (λ source. length source ≤ MOST_SOURCE_BYTES) sources.now }
+    ensures { OfSources job (words_at words.now indexes.now) sources.now result }
 {
     match read_sources(alloc, sources) {
-        Ok(compiled) => do_command(alloc, command, name_of(words, places, 0), &compiled.trees),
+        Ok(compiled) => do_job(alloc, job, name_of(words, indexes, 0), &compiled.trees),
         Err(
             SourceFault::Refused {
                 file,
                 fault,
                 offset,
             },
-        ) => source_refused(words, places, sources, file as usize, fault, offset),
+        ) => source_refused(words, indexes, sources, file as usize, fault, offset),
         Err(SourceFault::Memory) => Decision::NoMemory,
     }
 }
@@ -64,35 +66,30 @@ fn read_all<'w>(
 /// What becomes of sources with this first fault, in the file of this number, counted from 0, and at this offset.
 fn source_refused<'w>(
     words: &'w [Bytes],
-    places: &[u32],
+    indexes: &[u32],
     sources: &[Bytes],
     file: usize,
     fault: Fault,
     offset: u32,
 ) -> Decision<'w>
-    requires places { All (λ at. at < length words.now) places.now }
-    requires same { length sources.now ≡ length places.now }
-    requires within { All (λ source. length source ≤ 262144) sources.now }
+    requires indexes { All (λ at. at < length words.now) indexes.now }
+    requires same { length sources.now ≡ length indexes.now }
+    requires within { All (λ source. length source ≤ MOST_SOURCE_BYTES) sources.now }
     requires refused { IsRefusedAs sources.now (SourceFault.Refused file fault offset) }
-    ensures { (command : Command) → OfSources command (words_at words.now places.now) sources.now result }
+    ensures { (job : Job) → OfSources job (words_at words.now indexes.now) sources.now result }
 {
-    let name = name_of(words, places, file);
+    let name = name_of(words, indexes, file);
     let place = place_of(sources[file].bytes(), offset);
     Decision::SourceRefused { name, fault, place }
 }
 
 /// Says that the trees were checked, or runs them. The first file has this name.
-fn do_command<'w>(
-    alloc: Global,
-    command: Command,
-    name: &'w Bytes,
-    trees: &FileTrees,
-) -> Decision<'w>
-    ensures { OfTrees command name.now (map items_of trees.now) result }
+fn do_job<'w>(alloc: Global, job: Job, name: &'w Bytes, trees: &FileTrees) -> Decision<'w>
+    ensures { OfTrees job name.now (map items_of trees.now) result }
 {
-    match command {
-        Command::Check => Decision::Checked,
-        _ => run_trees(alloc, name, trees),
+    match job {
+        Job::Run => run_trees(alloc, name, trees),
+        Job::Check => Decision::Checked,
     }
 }
 

@@ -3,9 +3,6 @@ ghost use Rattle.std.specs.Prelude.{◌≡◌, codes};
 
 use ci_base::Text;
 
-/// The greatest number of bytes of a source.
-pub(crate) const SOURCE_LIMIT: u32 = 262_144;
-
 /// The name of the function from which the default script starts a task.
 pub(crate) fn main_name() -> Text
     ensures { result ≡ codes "Main" }

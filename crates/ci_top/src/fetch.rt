@@ -1,33 +1,34 @@
 //! Fetching the files of an order.
 ghost use Rattle.std.specs.Prelude.{◌≡◌, ◌<◌, ◌≤◌, ◌+◌, length, map, All, IfOk, IfErr, Some, slice_get};
-ghost use Rattle.ci_top.specs.Answers.{Fetched};
+ghost use Rattle.ci_base.specs.declared.bounds.TheConstants.{MOST_FILES};
 ghost use Rattle.ci_top.specs.Asked.{words_at};
 ghost use Rattle.ci_top.specs.Decisions.{StopsFetching, decision_of_fetch};
+ghost use Rattle.ci_top.specs.Fetching.{Fetched, each_within};
 
 use crate::decision::{Decision, FileFault};
-use crate::defaults::SOURCE_LIMIT;
 use ci_base::Bytes;
 use ci_outside::{Fetch, Shelf};
 use std::alloc::Global;
 
-/// The contents of the files whose names are the words at these indexes, fetched in order; or what becomes of the order, where
-/// one isn't fetched.
+/// The contents of the files whose names are the words at these indexes, each of at most `limit` bytes, fetched in order; or what
+/// becomes of the order, where one isn't fetched.
 pub(crate) fn fetch_all<'w, S: Shelf>(
     alloc: Global,
     words: &'w [Bytes],
-    places: &[u32],
+    indexes: &[u32],
+    limit: u32,
     shelf: &mut S,
 ) -> Result<Vec<Bytes>, Decision<'w>>
-    requires places { All (λ at. at < length words.now) places.now }
-    requires few { length places.now ≤ 64 }
-    ensures fetched { IfOk result (λ contents. Fetched (S.files shelf.old) (words_at words.now places.now) contents.items) }
-    ensures stopped { IfErr result (λ decision. StopsFetching (S.files shelf.old) (S.faults shelf.old) (S.faults shelf.new) (words_at words.now places.now) decision) }
+    requires indexes { All (λ at. at < length words.now) indexes.now }
+    requires few { length indexes.now ≤ MOST_FILES }
+    ensures fetched { IfOk result (λ contents. Fetched (S.files shelf.old) (each_within limit (words_at words.now indexes.now)) contents.items) }
+    ensures stopped { IfErr result (λ decision. StopsFetching (S.files shelf.old) (S.faults shelf.old) (S.faults shelf.new) (each_within limit (words_at words.now indexes.now)) decision) }
     ensures kept { S.files shelf.new ≡ S.files shelf.old }
 {
     let mut contents = Vec::new(alloc);
-    for file in 0..places.len() {
-        let name = name_of(words, places, file);
-        match shelf.fetch(alloc, name, SOURCE_LIMIT) {
+    for file in 0..indexes.len() {
+        let name = name_of(words, indexes, file);
+        match shelf.fetch(alloc, name, limit) {
             Ok(content) => {
                 let Ok(()) = contents.push(content) else {
                     return Err(Decision::NoMemory);
@@ -40,12 +41,12 @@ pub(crate) fn fetch_all<'w, S: Shelf>(
 }
 
 /// The name of the file of this number, counted from 0: the word at its index.
-pub(crate) fn name_of<'w>(words: &'w [Bytes], places: &[u32], file: usize) -> &'w Bytes
-    requires places { All (λ at. at < length words.now) places.now }
-    requires file { file < length places.now }
-    ensures { slice_get (words_at words.now places.now) file ≡ Some result.now }
+pub(crate) fn name_of<'w>(words: &'w [Bytes], indexes: &[u32], file: usize) -> &'w Bytes
+    requires indexes { All (λ at. at < length words.now) indexes.now }
+    requires file { file < length indexes.now }
+    ensures { slice_get (words_at words.now indexes.now) file ≡ Some result.now }
 {
-    &words[places[file] as usize]
+    &words[indexes[file] as usize]
 }
 
 /// What becomes of an order whose file of this number, counted from 1, and this name isn't fetched.

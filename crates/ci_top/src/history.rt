@@ -1,5 +1,6 @@
 //! The history of a run, and how its tasks stand at its end.
 ghost use Rattle.std.specs.Prelude.{◌≡◌, ◌<◌, ◌≤◌, [], ◌∷◌, ◌++◌, length, IfOk, OnOk, OnErr};
+ghost use Rattle.ci_base.specs.declared.bounds.TheConstants.{MOST_TASKS};
 
 use ci_base::{Ending, Entry, OutOfMemory, Status, Text};
 use std::alloc::Global;
@@ -73,6 +74,7 @@ pub struct TaskEndList {
 }
 
 impl Model for TaskEndList {
+    ghost use Rattle.ci_base.specs.declared.bounds.TheConstants.{MOST_TASKS};
     ghost use Rattle.std.specs.Prelude.{List, ◌≤◌, length};
     ghost use Rattle.ci_top.specs.declared.history.TaskEnd.{TaskEnd};
 
@@ -80,7 +82,7 @@ impl Model for TaskEndList {
 
     ghost view = { λ list. list.kept.items };
 
-    ghost invariant = { λ list. length list.kept.items ≤ 4096 };
+    ghost invariant = { λ list. length list.kept.items ≤ MOST_TASKS };
 }
 
 impl TaskEndList {
@@ -95,7 +97,7 @@ impl TaskEndList {
 
     /// Adds the next task. Where there is no memory for it, nothing changes.
     pub fn add(&mut self, end: TaskEnd) -> Result<(), OutOfMemory>
-        requires { length self.old < 4096 }
+        requires { length self.old < MOST_TASKS }
         ensures ok { OnOk result (self.new ≡ self.old ++ end ∷ []) }
         ensures err { OnErr result (self.new ≡ self.old) }
     {
@@ -108,7 +110,7 @@ impl TaskEndList {
     /// The tasks, by their numbers from 1.
     pub fn members(&self) -> &[TaskEnd]
         ensures value { result.now ≡ self.now }
-        ensures within { length result.now ≤ 4096 }
+        ensures within { length result.now ≤ MOST_TASKS }
     {
         self.kept.as_slice()
     }

@@ -12,8 +12,6 @@ mod outcome;
 mod report;
 mod run;
 mod tell;
-#[cfg(test)]
-mod tests;
 mod top;
 
 pub use decision::FileFault;

@@ -1,6 +1,7 @@
 //! The report of a run.
 ghost use Rattle.std.specs.Prelude.{◌≡◌, ◌+◌, ◌≤◌, ◌++◌, length, decimal, codes};
 ghost use Rattle.std.specs.List.{flat_map};
+ghost use Rattle.ci_base.specs.declared.bounds.TheConstants.{MOST_LINE_BYTES, MOST_TASKS};
 ghost use Rattle.ci_outside.specs.Sink.{Puts};
 ghost use Rattle.ci_top.specs.Shared.{is_live_status};
 ghost use Rattle.ci_top.specs.Report.{CanTell, report_text, entry_line, task_line as line_of_task, task_lines, closing_line, ending_word as word_of, status_text, mark_text};
@@ -67,7 +68,7 @@ fn trace_line(task: u32, text: &Text) -> Line
 
 /// Puts a line for each task.
 fn put_tasks<K: Sink>(tasks: &[TaskEnd], out: &mut K) -> Result<(), Failed>
-    requires { length tasks.now ≤ 4096 }
+    requires { length tasks.now ≤ MOST_TASKS }
     ensures { Puts K.bytes K.faults out.old out.new result (task_lines 1 tasks.now) }
 {
     let mut number = 1;
@@ -103,7 +104,7 @@ fn task_line(number: u32, task: &TaskEnd) -> Line
 
 /// Adds how a task stands.
 fn add_status(status: Status, to: &mut Line)
-    requires { length to.old + 20 ≤ 4096 }
+    requires { length to.old + 20 ≤ MOST_LINE_BYTES }
     ensures value { to.new ≡ to.old ++ status_text status }
     ensures short { length to.new ≤ length to.old + 20 }
 {

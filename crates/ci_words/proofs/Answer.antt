@@ -22,8 +22,8 @@ number_ranked faults.TooManyFiles = refl
 number_ranked faults.WordTooMany = refl
 
 -- two faults that are given stand at one index
-one_place : (command : Command) (words : List (List ℕ)) (fault other : Fault) (at there : ℕ) → IsFirst command words fault at → IsFirst command words other there → at ≡ there
-one_place command words fault other at there first second =
+one_index : (command : Command) (words : List (List ℕ)) (fault other : Fault) (at there : ℕ) → IsFirst command words fault at → IsFirst command words other there → at ≡ there
+one_index command words fault other at there first second =
     let not_before : at < there → ⊥ = λ less. second.1 at less fault first.0.0 in
     let not_behind : there < at → ⊥ = λ less. first.1 there less other second.0.0 in
     omega arith
@@ -31,7 +31,7 @@ one_place command words fault other at there first second =
 -- and have one number
 one_number : (command : Command) (words : List (List ℕ)) (fault other : Fault) (at there : ℕ) → IsFirst command words fault at → IsFirst command words other there → number_of fault ≡ number_of other
 one_number command words fault other at there first second =
-    let same = one_place command words fault other at there first second in
+    let same = one_index command words fault other at there first second in
     let below : rank_of fault ≤ rank_of other = first.0.1 other (subst (λ (k : ℕ). HasFault command words other k) (sym same) second.0.0) in
     let above : rank_of other ≤ rank_of fault = second.0.1 fault (subst (λ (k : ℕ). HasFault command words fault k) same first.0.0) in
     let rank : rank_of fault ≡ rank_of other = omega arith in
@@ -44,9 +44,9 @@ one_as command words (Ok order) (Ok order') asked asked' = ap Ok (asked'.1 ∙ s
 one_as command words (Ok order) (Err refused) asked given = absurd (asked.0 given.1 given.0 given.2.0.0)
 one_as command words (Err refused) (Ok order) given asked = absurd (asked.0 given.1 given.0 given.2.0.0)
 one_as command words (Err refused) (Err refused') given given' =
-    let place = one_place command words given.0 given'.0 given.1 given'.1 given.2 given'.2 in
+    let index = one_index command words given.0 given'.0 given.1 given'.1 given.2 given'.2 in
     let number = one_number command words given.0 given'.0 given.1 given'.1 given.2 given'.2 in
-    rw (given.3, given'.3, place, number) refl
+    rw (given.3, given'.3, index, number) refl
 
 -- words come to one answer
 pub one_answer : (words : List (List ℕ)) (result other : Result Order WordFault) → Orders words result → Orders words other → other ≡ result

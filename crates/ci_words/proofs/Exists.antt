@@ -17,7 +17,7 @@ use Rattle.ci_words.specs.Number.{is_number, value_of, bounds_of, bounds_of_plai
 use Rattle.ci_words.specs.Fault.{rank_of, number_of, HasFault, IsToBe, IsFreeAt, IsGivenAt, IsFirst}
 use Rattle.ci_words.specs.Order.{order_of, OrdersAs, OrdersOf, Orders}
 use Rattle.ci_words.proofs.Few.{fault_within}
-use Rattle.ci_words.proofs.Only.{OptionFault, NumberFault, PlaceFault, EndFault, option_only, unknown_only, command_free, value_free, number_only, place_only, end_only}
+use Rattle.ci_words.proofs.Only.{OptionFault, NumberFault, CountFault, EndFault, option_only, unknown_only, command_free, value_free, number_only, count_only, end_only}
 
 -- a fault or none is given at the index
 abbrev Given : Command → List (List ℕ) → ℕ → Type 0
@@ -50,7 +50,7 @@ given_option command words at name within role =
       again whole (inr none) = (None, λ other has. no_fault whole none other (only other has))
 
       by_test : (takes : Bool) → takes_value name ≡ takes → (at + 1 < length words) ⊎ (length words ≤ at + 1) → (0 < count_before command words (roles.Known name) at) ⊎ (count_before command words (roles.Known name) at ≤ 0) → Given command words at
-      by_test false none place before = again (λ takes last. cc) before
+      by_test false none index before = again (λ takes last. cc) before
       by_test true value (inl inside) before = again (λ takes last. omega arith) before
       by_test true value (inr last) before = (Some faults.ValueMissing, ((name, (within, role), value, omega arith), λ other has. missing_least other (only other has)))
 
@@ -95,37 +95,37 @@ given_plain command words at within role = by_bounds (bounds_of_plain command (c
   before : ℕ
   before = count_before command words roles.Plain at
 
-  place_least : takes_files command ≡ true → (other : Fault) → PlaceFault command (count_before command words roles.Plain at) other → 9 ≤ rank_of other
-  place_least takes faults.TooManyFiles says = omega arith
-  place_least takes faults.WordTooMany says = omega arith
-  place_least takes other says = absurd says
+  count_least : takes_files command ≡ true → (other : Fault) → CountFault command (count_before command words roles.Plain at) other → 9 ≤ rank_of other
+  count_least takes faults.TooManyFiles says = omega arith
+  count_least takes faults.WordTooMany says = omega arith
+  count_least takes other says = absurd says
 
-  word_least : takes_files command ≡ false → (other : Fault) → PlaceFault command (count_before command words roles.Plain at) other → 10 ≤ rank_of other
+  word_least : takes_files command ≡ false → (other : Fault) → CountFault command (count_before command words roles.Plain at) other → 10 ≤ rank_of other
   word_least takes faults.TooManyFiles says = cc
   word_least takes faults.WordTooMany says = omega arith
   word_least takes other says = absurd says
 
-  no_many : takes_files command ≡ true → (count_before command words roles.Plain at ≡ 64 → ⊥) → (other : Fault) → PlaceFault command (count_before command words roles.Plain at) other → ⊥
+  no_many : takes_files command ≡ true → (count_before command words roles.Plain at ≡ 64 → ⊥) → (other : Fault) → CountFault command (count_before command words roles.Plain at) other → ⊥
   no_many takes few faults.TooManyFiles says = few says.1
   no_many takes few faults.WordTooMany says = cc
   no_many takes few other says = says
 
-  no_second : takes_files command ≡ false → count_before command words roles.Plain at ≤ 0 → (other : Fault) → PlaceFault command (count_before command words roles.Plain at) other → ⊥
+  no_second : takes_files command ≡ false → count_before command words roles.Plain at ≤ 0 → (other : Fault) → CountFault command (count_before command words roles.Plain at) other → ⊥
   no_second takes none faults.TooManyFiles says = cc
   no_second takes none faults.WordTooMany says = omega arith
   no_second takes none other says = says
 
-  by_command : (answer : Bool) → takes_files command ≡ answer → ((fault : Fault) → HasFault command words fault at → PlaceFault command (count_before command words roles.Plain at) fault) → (count_before command words roles.Plain at < 64) ⊎ (64 ≤ count_before command words roles.Plain at) → (64 < count_before command words roles.Plain at) ⊎ (count_before command words roles.Plain at ≤ 64) → (0 < count_before command words roles.Plain at) ⊎ (count_before command words roles.Plain at ≤ 0) → Given command words at
+  by_command : (answer : Bool) → takes_files command ≡ answer → ((fault : Fault) → HasFault command words fault at → CountFault command (count_before command words roles.Plain at) fault) → (count_before command words roles.Plain at < 64) ⊎ (64 ≤ count_before command words roles.Plain at) → (64 < count_before command words roles.Plain at) ⊎ (count_before command words roles.Plain at ≤ 64) → (0 < count_before command words roles.Plain at) ⊎ (count_before command words roles.Plain at ≤ 0) → Given command words at
   by_command true takes only (inl few) below some = (None, λ other has. no_many takes (λ full. omega arith) other (only other has))
   by_command true takes only (inr many) (inl more) some = (None, λ other has. no_many takes (λ full. omega arith) other (only other has))
-  by_command true takes only (inr many) (inr full) some = (Some faults.TooManyFiles, (((within, role), takes, omega arith), λ other has. place_least takes other (only other has)))
+  by_command true takes only (inr many) (inr full) some = (Some faults.TooManyFiles, (((within, role), takes, omega arith), λ other has. count_least takes other (only other has)))
   by_command false takes only many below (inl some) = (Some faults.WordTooMany, (((within, role), takes, some), λ other has. word_least takes other (only other has)))
   by_command false takes only many below (inr none) = (None, λ other has. no_second takes none other (only other has))
 
   by_bounds : (bounds : Option Bounds) → bounds_of_plain command (count_before command words roles.Plain at) ≡ bounds → Given command words at
   by_bounds (Some bounds) same = given_number command words at bounds (within, rw role same)
   by_bounds None same =
-      by_command (takes_files command) refl (place_only command words at within role same)
+      by_command (takes_files command) refl (count_only command words at within role same)
       (cases_lt (count_before command words roles.Plain at) 64) (cases_lt 64 (count_before command words roles.Plain at)) (cases_lt 0 (count_before command words roles.Plain at))
 
 -- at the number of words
@@ -184,7 +184,7 @@ given_unknown command words at within role =
 
 -- at each index a fault is given or none
 given_at : (command : Command) (words : List (List ℕ)) (at : ℕ) → Given command words at
-given_at command words at = by_place (cases_lt at (length words)) (cases_lt (length words) at) where
+given_at command words at = by_index (cases_lt at (length words)) (cases_lt (length words) at) where
   by_role : (role : Role) → role_at command words at ≡ role → at < length words → Given command words at
   by_role roles.Command same within = (None, command_free command words at within same)
   by_role (roles.Known name) same within = given_option command words at name within same
@@ -192,10 +192,10 @@ given_at command words at = by_place (cases_lt at (length words)) (cases_lt (len
   by_role (roles.Value name) same within = given_value command words at name within same
   by_role roles.Plain same within = given_plain command words at within same
 
-  by_place : (at < length words) ⊎ (length words ≤ at) → (length words < at) ⊎ (at ≤ length words) → Given command words at
-  by_place (inl within) past = by_role (role_at command words at) refl within
-  by_place (inr outside) (inl past) = (None, λ fault has. let within = fault_within command words fault at has in omega arith)
-  by_place (inr outside) (inr not_past) =
+  by_index : (at < length words) ⊎ (length words ≤ at) → (length words < at) ⊎ (at ≤ length words) → Given command words at
+  by_index (inl within) past = by_role (role_at command words at) refl within
+  by_index (inr outside) (inl past) = (None, λ fault has. let within = fault_within command words fault at has in omega arith)
+  by_index (inr outside) (inr not_past) =
       let same : length words ≡ at = omega arith in
       subst (λ (k : ℕ). Given command words k) same (given_end command words)
 
@@ -206,10 +206,10 @@ found_below command words (suc end) = one_more (found_below command words end) (
   one_more : ((at : ℕ) → at < end → IsFreeAt command words at) ⊎ ((fault : Fault) × (at : ℕ) × IsFirst command words fault at) → Given command words end → ((at : ℕ) → at < suc end → IsFreeAt command words at) ⊎ ((fault : Fault) × (at : ℕ) × IsFirst command words fault at)
   one_more (inr found) here = inr found
   one_more (inl free) (Some fault, least) = inr (fault, end, (least, free))
-  one_more (inl free) (None, none) = inl (λ at below. by_place at (cases_lt at end) (λ same. omega arith) below) where
-    by_place : (at : ℕ) → (at < end) ⊎ (end ≤ at) → (end < at → at < suc end → ⊥) → at < suc end → IsFreeAt command words at
-    by_place at (inl earlier) never below = free at earlier
-    by_place at (inr last) never below =
+  one_more (inl free) (None, none) = inl (λ at below. by_index at (cases_lt at end) (λ same. omega arith) below) where
+    by_index : (at : ℕ) → (at < end) ⊎ (end ≤ at) → (end < at → at < suc end → ⊥) → at < suc end → IsFreeAt command words at
+    by_index at (inl earlier) never below = free at earlier
+    by_index at (inr last) never below =
         let same : end ≡ at = omega arith in
         subst (λ (k : ℕ). IsFreeAt command words k) same none
 

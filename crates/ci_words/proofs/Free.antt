@@ -9,10 +9,10 @@ use Rattle.ci_words.specs.declared.role.Role.TheVariants as roles
 use Rattle.ci_words.specs.declared.number.Bounds.{Bounds}
 use Rattle.ci_words.specs.declared.fault.Fault.TheVariants as faults
 use Rattle.ci_words.specs.Command.{takes_files}
-use Rattle.ci_words.specs.Role.{word_at, role_at, role_number, same_role, count_before, place_before, places_before}
+use Rattle.ci_words.specs.Role.{word_at, role_at, role_number, same_role, count_before, index_before, indexes_before}
 use Rattle.ci_words.specs.Number.{is_number, value_of, bounds_of}
 use Rattle.ci_words.specs.Fault.{IsToBe, IsFree}
-use Rattle.ci_words.specs.Order.{value_place}
+use Rattle.ci_words.specs.Order.{value_index}
 use Rattle.std.proofs.lemmas.Bool.{eqb-true}
 
 -- all roles, by their numbers
@@ -49,12 +49,12 @@ same_role-true role other same =
     let two = role_numbered other in
     cc
 
--- the word at the place of a role has it
-pub place_has : (command : Command) (words : List (List ℕ)) (role : Role) (end at : ℕ) → place_before command words role end ≡ Some at → (at < end) × (role_at command words at ≡ role)
-place_has command words role zero at placed = cc
-place_has command words role (suc end) at placed =
-    by_test (same_role (role_at command words end) role) refl placed (place_has command words role end at) where
-      by_test : (answer : Bool) → same_role (role_at command words end) role ≡ answer → (if answer then Some end else place_before command words role end) ≡ Some at → (place_before command words role end ≡ Some at → (at < end) × (role_at command words at ≡ role)) → (at < suc end) × (role_at command words at ≡ role)
+-- the word at the index of a role has it
+pub index_has : (command : Command) (words : List (List ℕ)) (role : Role) (end at : ℕ) → index_before command words role end ≡ Some at → (at < end) × (role_at command words at ≡ role)
+index_has command words role zero at placed = cc
+index_has command words role (suc end) at placed =
+    by_test (same_role (role_at command words end) role) refl placed (index_has command words role end at) where
+      by_test : (answer : Bool) → same_role (role_at command words end) role ≡ answer → (if answer then Some end else index_before command words role end) ≡ Some at → (index_before command words role end ≡ Some at → (at < end) × (role_at command words at ≡ role)) → (at < suc end) × (role_at command words at ≡ role)
       by_test true same here earlier =
           let there : end ≡ at = cc in
           (omega arith, subst (λ (k : ℕ). role_at command words k ≡ role) there (same_role-true _ _ same))
@@ -81,18 +81,18 @@ small_bounds names.Journal some = absurd (search (rules, some))
 small_bounds names.From some = absurd (search (rules, some))
 
 -- the number of an option is read whole
-pub option_value : (command : Command) (words : List (List ℕ)) (name : OptionName) (at : ℕ) → IsFree command words → IsSome (bounds_of name) → Some at ≡ value_place command words name → min (value_of (word_at words at)) 200000000 ≡ value_of (word_at words at)
+pub option_value : (command : Command) (words : List (List ℕ)) (name : OptionName) (at : ℕ) → IsFree command words → IsSome (bounds_of name) → Some at ≡ value_index command words name → min (value_of (word_at words at)) 200000000 ≡ value_of (word_at words at)
 option_value command words name at free some placed =
-    let has = place_has command words (roles.Value name) (length words) at (sym placed) in
+    let has = index_has command words (roles.Value name) (length words) at (sym placed) in
     let bounds = small_bounds name some in
     let to_be : IsToBe command words at bounds.0 = (has.0, rw has.1 bounds.1) in
     let within = number_within command words at bounds.0 free to_be in
     omega arith
 
 -- the number of `make` is read whole
-pub make_value : (words : List (List ℕ)) (at : ℕ) → IsFree commands.Make words → Some at ≡ place_before commands.Make words roles.Plain (length words) → min (value_of (word_at words at)) 200000000 ≡ value_of (word_at words at)
+pub make_value : (words : List (List ℕ)) (at : ℕ) → IsFree commands.Make words → Some at ≡ index_before commands.Make words roles.Plain (length words) → min (value_of (word_at words at)) 200000000 ≡ value_of (word_at words at)
 make_value words at free placed =
-    let has = place_has commands.Make words roles.Plain (length words) at (sym placed) in
+    let has = index_has commands.Make words roles.Plain (length words) at (sym placed) in
     let alone : 0 < count_before commands.Make words roles.Plain at → ⊥ = λ more. free at faults.WordTooMany (has, refl, more) in
     let first : count_before commands.Make words roles.Plain at ≡ 0 = omega arith in
     let bounds : Bounds = record { low = 1; high = 900 } in
@@ -111,21 +111,21 @@ count_at_most command words role most (suc end) never =
           omega arith
       by_test false other earlier last = omega arith
 
--- as many places as are counted
-pub length-places : (command : Command) (words : List (List ℕ)) (role : Role) (end : ℕ) → length (places_before command words role end) ≡ count_before command words role end
-length-places command words role zero = refl
-length-places command words role (suc end) =
-    by_test (same_role (role_at command words end) role) (length-places command words role end) where
-      by_test : (answer : Bool) → length (places_before command words role end) ≡ count_before command words role end → length (places_before command words role end ++ (if answer then end ∷ [] else [])) ≡ count_before command words role end + (if answer then 1 else 0)
-      by_test true earlier = omega (arith, length-append (places_before command words role end) (end ∷ []))
-      by_test false earlier = omega (arith, length-append (places_before command words role end) [])
+-- as many indexes as are counted
+pub length-indexes : (command : Command) (words : List (List ℕ)) (role : Role) (end : ℕ) → length (indexes_before command words role end) ≡ count_before command words role end
+length-indexes command words role zero = refl
+length-indexes command words role (suc end) =
+    by_test (same_role (role_at command words end) role) (length-indexes command words role end) where
+      by_test : (answer : Bool) → length (indexes_before command words role end) ≡ count_before command words role end → length (indexes_before command words role end ++ (if answer then end ∷ [] else [])) ≡ count_before command words role end + (if answer then 1 else 0)
+      by_test true earlier = omega (arith, length-append (indexes_before command words role end) (end ∷ []))
+      by_test false earlier = omega (arith, length-append (indexes_before command words role end) [])
 
 -- a file has less than 64 files before it
-pub room_for_file : (command : Command) (words : List (List ℕ)) (at : ℕ) (files : List ℕ) (current : Role) → takes_files command ≡ true → IsFree command words → at < length words → current ≡ role_at command words at → files ≡ places_before command words roles.Plain at → true ≡ same_role current roles.Plain → length files < 64
+pub room_for_file : (command : Command) (words : List (List ℕ)) (at : ℕ) (files : List ℕ) (current : Role) → takes_files command ≡ true → IsFree command words → at < length words → current ≡ role_at command words at → files ≡ indexes_before command words roles.Plain at → true ≡ same_role current roles.Plain → length files < 64
 room_for_file command words at files current takes free within here placed same =
     let role : role_at command words at ≡ roles.Plain = sym here ∙ same_role-true current roles.Plain (sym same) in
     let other : count_before command words roles.Plain at ≡ 64 → ⊥ = λ full. free at faults.TooManyFiles ((within, role), takes, full) in
     let few : count_before command words roles.Plain at ≤ 64 =
     count_at_most command words roles.Plain 64 at (λ k below plain full. free k faults.TooManyFiles ((omega arith, plain), takes, full)) in
-    let many : length files ≡ count_before command words roles.Plain at = ap length placed ∙ length-places command words roles.Plain at in
+    let many : length files ≡ count_before command words roles.Plain at = ap length placed ∙ length-indexes command words roles.Plain at in
     omega arith

@@ -26,10 +26,10 @@ NumberFault bounds word faults.OutOfRange = (is_number word ≡ true) × IsOutsi
 NumberFault bounds word other = ⊥
 
 -- what a fault says of a plain word that needs to be no number
-abbrev pub PlaceFault : Command → ℕ → Fault → Type 0
-PlaceFault command before faults.TooManyFiles = (takes_files command ≡ true) × (before ≡ 64)
-PlaceFault command before faults.WordTooMany = (takes_files command ≡ false) × (0 < before)
-PlaceFault command before other = ⊥
+abbrev pub CountFault : Command → ℕ → Fault → Type 0
+CountFault command before faults.TooManyFiles = (takes_files command ≡ true) × (before ≡ 64)
+CountFault command before faults.WordTooMany = (takes_files command ≡ false) × (0 < before)
+CountFault command before other = ⊥
 
 -- what a fault says of the number of words
 abbrev pub EndFault : Command → List (List ℕ) → Fault → Type 0
@@ -141,17 +141,17 @@ number_only command words at bounds to_be faults.WordTooMany has =
     absurd (omega arith)
 
 -- the faults at a plain word that needs to be no number
-pub place_only : (command : Command) (words : List (List ℕ)) (at : ℕ) → at < length words → role_at command words at ≡ roles.Plain → bounds_of_plain command (count_before command words roles.Plain at) ≡ None → (fault : Fault) → HasFault command words fault at → PlaceFault command (count_before command words roles.Plain at) fault
-place_only command words at within role unbound faults.UnknownOption has = cc
-place_only command words at within role unbound faults.ValueMissing has = cc
-place_only command words at within role unbound faults.NumberMissing has = absurd (omega arith)
-place_only command words at within role unbound faults.FromMissing has = absurd (omega arith)
-place_only command words at within role unbound faults.NotANumber has = let some = rw role at has.1.1 in cc
-place_only command words at within role unbound faults.OutOfRange has = let some = rw role at has.1.1 in cc
-place_only command words at within role unbound faults.Repeated has = cc
-place_only command words at within role unbound faults.NoFile has = absurd (omega arith)
-place_only command words at within role unbound faults.TooManyFiles has = (has.1, has.2)
-place_only command words at within role unbound faults.WordTooMany has = (has.1, has.2)
+pub count_only : (command : Command) (words : List (List ℕ)) (at : ℕ) → at < length words → role_at command words at ≡ roles.Plain → bounds_of_plain command (count_before command words roles.Plain at) ≡ None → (fault : Fault) → HasFault command words fault at → CountFault command (count_before command words roles.Plain at) fault
+count_only command words at within role unbound faults.UnknownOption has = cc
+count_only command words at within role unbound faults.ValueMissing has = cc
+count_only command words at within role unbound faults.NumberMissing has = absurd (omega arith)
+count_only command words at within role unbound faults.FromMissing has = absurd (omega arith)
+count_only command words at within role unbound faults.NotANumber has = let some = rw role at has.1.1 in cc
+count_only command words at within role unbound faults.OutOfRange has = let some = rw role at has.1.1 in cc
+count_only command words at within role unbound faults.Repeated has = cc
+count_only command words at within role unbound faults.NoFile has = absurd (omega arith)
+count_only command words at within role unbound faults.TooManyFiles has = (has.1, has.2)
+count_only command words at within role unbound faults.WordTooMany has = (has.1, has.2)
 
 -- the faults at the number of words
 pub end_only : (command : Command) (words : List (List ℕ)) (fault : Fault) → HasFault command words fault (length words) → EndFault command words fault

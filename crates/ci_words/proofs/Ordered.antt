@@ -13,7 +13,7 @@ use Rattle.ci_words.specs.Bounds.{IsInBounds}
 use Rattle.ci_words.specs.Command.{command_named}
 use Rattle.ci_words.specs.Fault.{IsFree}
 use Rattle.ci_words.specs.Order.{order_of, OrdersOf, Orders}
-use Rattle.ci_words.specs.Role.{word_at, role_at, role_after, role_by_spelling, same_role, place_before}
+use Rattle.ci_words.specs.Role.{word_at, role_at, role_after, role_by_spelling, same_role, index_before}
 use Rattle.ci_words.proofs.InBounds.{order_within}
 
 -- The words of an order: the first one spells its command, they have no fault, and the order is what they ask for.
@@ -81,13 +81,13 @@ not_workers roles.Plain bare = refl
 not_workers (roles.Known name) bare = absurd bare
 not_workers (roles.Value name) bare = absurd bare
 
-no_place : (words : List (List ℕ)) (end : ℕ) → place_before commands.Check words (roles.Value names.Workers) end ≡ None
-no_place words zero = refl
-no_place words (suc end) = rw (not_workers (role_at commands.Check words end) (check_bare words end)) (no_place words end)
+no_index : (words : List (List ℕ)) (end : ℕ) → index_before commands.Check words (roles.Value names.Workers) end ≡ None
+no_index words zero = refl
+no_index words (suc end) = rw (not_workers (role_at commands.Check words end) (check_bare words end)) (no_index words end)
 
 -- so an order of `check` has no workers
 pub check_alone : (words : List (List ℕ)) (order : Order) → IsOrdered words order → order.command ≡ commands.Check → order.limits.workers ≡ 0
 check_alone words order is check =
     let Alone : Command → Type 0 = λ c. (order_of c words).limits.workers ≡ 0 in
-    let alone : (order_of commands.Check words).limits.workers ≡ 0 = rw (no_place words (length words)) refl in
+    let alone : (order_of commands.Check words).limits.workers ≡ 0 = rw (no_index words (length words)) refl in
     ap (λ o. o.limits.workers) is.order_is ∙ subst Alone (sym check) alone

@@ -2,7 +2,7 @@ use Rattle.std.proofs.Common.{◌≡◌, ℕ, ◌+◌, sym, add-one, arith, Bool
 use Rattle.std.proofs.lemmas.List.{append-nil}
 use Rattle.ci_words.specs.declared.command.Command.{Command}
 use Rattle.ci_words.specs.declared.role.Role.{Role}
-use Rattle.ci_words.specs.Role.{word_at, role_after, role_at, same_role, count_before, place_before, places_before}
+use Rattle.ci_words.specs.Role.{word_at, role_after, role_at, same_role, count_before, index_before, indexes_before}
 
 -- the role of the next word
 pub role_step : (command : Command) (words : List (List ℕ)) (at : ℕ) (current next : Role) (word : List ℕ) → current ≡ role_at command words at → word ≡ word_at words (at + 1) → next ≡ role_after command current word → next ≡ role_at command words (at + 1)
@@ -23,22 +23,22 @@ pub count_kept : (command : Command) (words : List (List ℕ)) (role : Role) (at
 count_kept command words role at count next current here so_far other kept =
     rw (add-one at, same_at command words role at current false here other, ← so_far) (omega arith)
 
--- a word of the role takes the place
-pub place_step : (command : Command) (words : List (List ℕ)) (role : Role) (at : ℕ) (next : Option ℕ) (current : Role) → current ≡ role_at command words at → true ≡ same_role current role → next ≡ Some at → next ≡ place_before command words role (at + 1)
-place_step command words role at next current here same taken =
+-- a word of the role takes the index
+pub index_step : (command : Command) (words : List (List ℕ)) (role : Role) (at : ℕ) (next : Option ℕ) (current : Role) → current ≡ role_at command words at → true ≡ same_role current role → next ≡ Some at → next ≡ index_before command words role (at + 1)
+index_step command words role at next current here same taken =
     rw (add-one at, same_at command words role at current true here same) taken
 
 -- a word of another role leaves it
-pub place_kept : (command : Command) (words : List (List ℕ)) (role : Role) (at : ℕ) (place next : Option ℕ) (current : Role) → current ≡ role_at command words at → place ≡ place_before command words role at → false ≡ same_role current role → next ≡ place → next ≡ place_before command words role (at + 1)
-place_kept command words role at place next current here so_far other kept =
+pub index_kept : (command : Command) (words : List (List ℕ)) (role : Role) (at : ℕ) (index next : Option ℕ) (current : Role) → current ≡ role_at command words at → index ≡ index_before command words role at → false ≡ same_role current role → next ≡ index → next ≡ index_before command words role (at + 1)
+index_kept command words role at index next current here so_far other kept =
     rw (add-one at, same_at command words role at current false here other, ← so_far) kept
 
--- a word of the role is added to the places
-pub places_step : (command : Command) (words : List (List ℕ)) (role : Role) (at : ℕ) (places next : List ℕ) (current : Role) → current ≡ role_at command words at → places ≡ places_before command words role at → true ≡ same_role current role → next ≡ places ++ at ∷ [] → next ≡ places_before command words role (at + 1)
-places_step command words role at places next current here so_far same added =
+-- a word of the role is added to the indexes
+pub indexes_step : (command : Command) (words : List (List ℕ)) (role : Role) (at : ℕ) (indexes next : List ℕ) (current : Role) → current ≡ role_at command words at → indexes ≡ indexes_before command words role at → true ≡ same_role current role → next ≡ indexes ++ at ∷ [] → next ≡ indexes_before command words role (at + 1)
+indexes_step command words role at indexes next current here so_far same added =
     rw (add-one at, same_at command words role at current true here same, ← so_far) added
 
 -- a word of another role isn't
-pub places_kept : (command : Command) (words : List (List ℕ)) (role : Role) (at : ℕ) (places next : List ℕ) (current : Role) → current ≡ role_at command words at → places ≡ places_before command words role at → false ≡ same_role current role → next ≡ places → next ≡ places_before command words role (at + 1)
-places_kept command words role at places next current here so_far other kept =
+pub indexes_kept : (command : Command) (words : List (List ℕ)) (role : Role) (at : ℕ) (indexes next : List ℕ) (current : Role) → current ≡ role_at command words at → indexes ≡ indexes_before command words role at → false ≡ same_role current role → next ≡ indexes → next ≡ indexes_before command words role (at + 1)
+indexes_kept command words role at indexes next current here so_far other kept =
     rw (add-one at, same_at command words role at current false here other, ← so_far, append-nil) kept

@@ -1,4 +1,5 @@
 use Rattle.std.specs.Prelude.{◌≡◌, ◌<◌, ◌≤◌, ℕ, ◌+◌, true, false, Option, Some, None, List, [], length, codes, ◌==◌, if◌then◌else◌}
+use Rattle.ci_base.specs.declared.bounds.TheConstants.{MOST_FILES}
 use Rattle.ci_words.specs.declared.command.Command.{Command}
 use Rattle.ci_words.specs.declared.command.Command.TheVariants as commands
 use Rattle.ci_words.specs.declared.command.OptionName.{OptionName}
@@ -41,7 +42,7 @@ HasFault command words faults.Repeated at =
 HasFault command words faults.NoFile at =
     (at ≡ length words) × (takes_files command ≡ true) × (count_before command words roles.Plain at ≡ 0)
 HasFault command words faults.TooManyFiles at =
-    HasRole command words at roles.Plain × (takes_files command ≡ true) × (count_before command words roles.Plain at ≡ 64)
+    HasRole command words at roles.Plain × (takes_files command ≡ true) × (count_before command words roles.Plain at ≡ MOST_FILES)
 HasFault command words faults.WordTooMany at =
     HasRole command words at roles.Plain × (takes_files command ≡ false) × (0 < count_before command words roles.Plain at)
 

@@ -1,6 +1,8 @@
 use Rattle.std.specs.Prelude.{ℕ, zero, suc, ◌+◌, ◌-◌, ◌*◌, ◌<◌, ◌⊎◌, Bool, ◌&&◌, nat_lt, Option, Some, None, List, length, fold}
 use Rattle.std.specs.List.{list_all}
 use Rattle.std.specs.Char.{is_ascii_digit}
+use Rattle.ci_base.specs.declared.bounds.TheConstants.{LEAST_BUDGET, LEAST_SLICE, MOST_BUDGET, MOST_SLICE, MOST_WORKERS}
+use Rattle.ci_words.specs.declared.number.TheConstants.{MOST_SIZE}
 use Rattle.ci_words.specs.declared.command.Command.{Command}
 use Rattle.ci_words.specs.declared.command.Command.TheVariants as commands
 use Rattle.ci_words.specs.declared.command.OptionName.{OptionName}
@@ -20,9 +22,9 @@ value_of word = fold (λ value digit. value * 10 + (digit - 48)) 0 word
 -- the least and the largest number that an option takes, if it takes one
 abbrev pub bounds_of : OptionName → Option Bounds
 bounds_of names.Script = None
-bounds_of names.Slice = Some (record { low = 1; high = 1000000 })
-bounds_of names.Budget = Some (record { low = 200; high = 100000000 })
-bounds_of names.Workers = Some (record { low = 0; high = 16 })
+bounds_of names.Slice = Some (record { low = LEAST_SLICE; high = MOST_SLICE })
+bounds_of names.Budget = Some (record { low = LEAST_BUDGET; high = MOST_BUDGET })
+bounds_of names.Workers = Some (record { low = 0; high = MOST_WORKERS })
 bounds_of names.Journal = None
 bounds_of names.From = None
 
@@ -32,7 +34,7 @@ bounds_of_plain commands.Run before = None
 bounds_of_plain commands.Check before = None
 bounds_of_plain commands.List before = None
 bounds_of_plain commands.Replay before = None
-bounds_of_plain commands.Make zero = Some (record { low = 1; high = 900 })
+bounds_of_plain commands.Make zero = Some (record { low = 1; high = MOST_SIZE })
 bounds_of_plain commands.Make (suc before) = None
 
 -- the bounds of the number that a word of this role is to be, if it is to be one

@@ -64,13 +64,13 @@ count_before command words role (suc at) =
     count_before command words role at + (if same_role (role_at command words at) role then 1 else 0)
 
 -- the index of the word before this one that has the role; the last one where there are several
-abbrev pub place_before : Command → List (List ℕ) → Role → ℕ → Option ℕ
-place_before command words role zero = None
-place_before command words role (suc at) =
-    if same_role (role_at command words at) role then Some at else place_before command words role at
+abbrev pub index_before : Command → List (List ℕ) → Role → ℕ → Option ℕ
+index_before command words role zero = None
+index_before command words role (suc at) =
+    if same_role (role_at command words at) role then Some at else index_before command words role at
 
 -- the indexes of all words before this one that have the role, in order
-abbrev pub places_before : Command → List (List ℕ) → Role → ℕ → List ℕ
-places_before command words role zero = []
-places_before command words role (suc at) =
-    places_before command words role at ++ (if same_role (role_at command words at) role then at ∷ [] else [])
+abbrev pub indexes_before : Command → List (List ℕ) → Role → ℕ → List ℕ
+indexes_before command words role zero = []
+indexes_before command words role (suc at) =
+    indexes_before command words role at ++ (if same_role (role_at command words at) role then at ∷ [] else [])

@@ -7,9 +7,10 @@ ghost use Rattle.ci_words.specs.Number.{bounds_of_plain};
 ghost use Rattle.ci_words.specs.Fault.{number_of, text_of, IsToBe, IsGivenAt, IsFound};
 
 use crate::command::{Command, OptionName};
-use crate::number::{Bounds, bounds_of, bounds_of_plain, is_number, value_of};
+use crate::number::{Bounds, TOO_LARGE, bounds_of, bounds_of_plain, is_number, value_of};
 use crate::role::{Role, count_before, role_after, word_at};
 use ci_base::Bytes;
+use ci_base::bounds::MOST_FILES;
 
 /// A fault of the words: its number, from 1 to 10, and the index of a word, counted from 0.
 #[derive(Clone, Copy, Debug, PartialEq, Eq)]
@@ -53,9 +54,6 @@ pub(crate) struct Found {
     pub(crate) fault: Fault,
     pub(crate) at: usize,
 }
-
-/// The most files that a command takes.
-const MOST_FILES: usize = 64;
 
 impl Fault {
     /// The number of the fault.
@@ -165,14 +163,14 @@ fn fault_of_plain(command: Command, words: &[Bytes], at: usize) -> Option<Fault>
     let before = count_before(command, words, Role::Plain, at);
     match bounds_of_plain(command, before) {
         Some(bounds) => fault_of_number(command, words, at, bounds),
-        None => fault_of_place(command, words, at, before),
+        None => fault_of_count(command, words, at, before),
     }
 }
 
 /// The fault that is given of those at a word that is to be a number within these bounds.
 fn fault_of_number(command: Command, words: &[Bytes], at: usize, bounds: Bounds) -> Option<Fault>
     requires to_be { IsToBe command words.now at bounds }
-    requires high { bounds.high < 200000000 }
+    requires high { bounds.high < TOO_LARGE }
     ensures { IsGivenAt command words.now at result }
 {
     let word = word_at(words, at);
@@ -187,7 +185,7 @@ fn fault_of_number(command: Command, words: &[Bytes], at: usize, bounds: Bounds)
 }
 
 /// The fault that is given of those at a plain word that needs to be no number, where so many plain words stand before it.
-fn fault_of_place(command: Command, words: &[Bytes], at: usize, before: usize) -> Option<Fault>
+fn fault_of_count(command: Command, words: &[Bytes], at: usize, before: usize) -> Option<Fault>
     requires within { at < length words.now }
     requires role { role_at command words.now at ≡ roles.Plain }
     requires before { before ≡ count_before command words.now roles.Plain at }

@@ -14,6 +14,3 @@ pub use fault::{WordFault, fault_text};
 pub use laws::words_have_one_answer;
 pub use order::{FileList, Order};
 pub use read::read_words;
-
-#[cfg(test)]
-mod tests;

@@ -5,6 +5,7 @@ ghost use Rattle.std.specs.Char.{is_ascii_digit};
 ghost use Rattle.ci_words.specs.Number.{is_number, value_of, bounds_of, bounds_of_plain};
 
 use crate::command::{Command, OptionName};
+use ci_base::bounds::{LEAST_BUDGET, LEAST_SLICE, MOST_BUDGET, MOST_SLICE, MOST_WORKERS};
 
 /// The least and the largest number that a word may be.
 #[derive(Clone, Copy, Debug, PartialEq, Eq)]
@@ -13,8 +14,11 @@ pub(crate) struct Bounds {
     pub(crate) high: u32,
 }
 
+/// The largest number that `make` takes.
+pub(crate) const MOST_SIZE: u32 = 900;
+
 /// Above each number that a word may be.
-const TOO_LARGE: u32 = 200_000_000;
+pub(crate) const TOO_LARGE: u32 = 2 * MOST_BUDGET;
 
 /// Whether the word is one or more decimal digits.
 pub(crate) fn is_number(word: &[u8]) -> bool
@@ -30,9 +34,9 @@ fn has_digits_alone(word: &[u8]) -> bool
     word.iter().all(|byte| byte.is_ascii_digit())
 }
 
-/// The number that the digits spell, or 200,000,000 where it is larger.
+/// The number that the digits spell, or `TOO_LARGE` where it is larger.
 pub(crate) fn value_of(word: &[u8]) -> u32
-    ensures { result ≡ min (value_of word.now) 200000000 }
+    ensures { result ≡ min (value_of word.now) TOO_LARGE }
 {
     let mut value = 0;
     for byte in word {
@@ -47,14 +51,17 @@ pub(crate) fn bounds_of(name: OptionName) -> Option<Bounds>
 {
     match name {
         OptionName::Slice => Some(Bounds {
-            low: 1,
-            high: 1_000_000,
+            low: LEAST_SLICE,
+            high: MOST_SLICE,
         }),
         OptionName::Budget => Some(Bounds {
-            low: 200,
-            high: 100_000_000,
+            low: LEAST_BUDGET,
+            high: MOST_BUDGET,
         }),
-        OptionName::Workers => Some(Bounds { low: 0, high: 16 }),
+        OptionName::Workers => Some(Bounds {
+            low: 0,
+            high: MOST_WORKERS,
+        }),
         _ => None,
     }
 }
@@ -64,7 +71,10 @@ pub(crate) fn bounds_of_plain(command: Command, before: usize) -> Option<Bounds>
     ensures { result ≡ bounds_of_plain command before }
 {
     match (command, before) {
-        (Command::Make, 0) => Some(Bounds { low: 1, high: 900 }),
+        (Command::Make, 0) => Some(Bounds {
+            low: 1,
+            high: MOST_SIZE,
+        }),
         _ => None,
     }
 }

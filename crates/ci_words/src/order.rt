@@ -1,34 +1,37 @@
 //! What words without a fault ask for.
 ghost use Rattle.std.specs.Prelude.{◌≡◌, ◌<◌, ◌≤◌, ◌+◌, ◌^◌, ◌++◌, [], ◌∷◌, length, true, IsSome};
+ghost use Rattle.ci_base.specs.declared.bounds.TheConstants.{MOST_FILES};
 ghost use Rattle.ci_words.specs.declared.command.Command.TheVariants as commands;
 ghost use Rattle.ci_words.specs.declared.role.Role.TheVariants as roles;
 ghost use Rattle.ci_words.specs.Command.{takes_files};
 ghost use Rattle.ci_words.specs.Number.{bounds_of};
-ghost use Rattle.ci_words.specs.Role.{places_before};
+ghost use Rattle.ci_words.specs.Role.{indexes_before};
 ghost use Rattle.ci_words.specs.Fault.{IsFree};
-ghost use Rattle.ci_words.specs.Order.{value_place, number_at, files_of, size_of, limits_of, order_of};
+ghost use Rattle.ci_words.specs.Order.{value_index, number_at, files_of, size_of, limits_of, order_of};
 
 use crate::command::{Command, OptionName};
 use crate::number::value_of;
-use crate::role::{Role, place_of, role_after, word_at};
+use crate::role::{Role, index_of, role_after, word_at};
 use arrayvec::ArrayVec;
+use ci_base::bounds::{GIVEN_BUDGET, GIVEN_SLICE, MOST_FILES};
 use ci_base::{Bytes, Limits};
 use std::marker::Model;
 
 /// The indexes of at most 64 files. Contracts see the list.
 #[derive(Debug, PartialEq, Eq, Drop)]
 pub struct FileList {
-    kept: ArrayVec<u32, 64>,
+    kept: ArrayVec<u32, MOST_FILES>,
 }
 
 impl Model for FileList {
+    ghost use Rattle.ci_base.specs.declared.bounds.TheConstants.{MOST_FILES};
     ghost use Rattle.std.specs.Prelude.{List, ℕ, ◌≤◌, length};
 
     ghost Value = { List ℕ };
 
     ghost view = { λ list. list.kept.items };
 
-    ghost invariant = { λ list. length list.kept.items ≤ 64 };
+    ghost invariant = { λ list. length list.kept.items ≤ MOST_FILES };
 
     ghost inverse = { λ indexes. record { kept = record { items = indexes } } };
 }
@@ -45,7 +48,7 @@ impl FileList {
 
     /// Adds the index at the end, for which there is room.
     pub fn add(&mut self, index: u32)
-        requires { length self.old < 64 }
+        requires { length self.old < MOST_FILES }
         ensures { self.new ≡ self.old ++ index ∷ [] }
     {
         self.kept.push(index);
@@ -54,7 +57,7 @@ impl FileList {
     /// The indexes, in order.
     pub fn indexes(&self) -> &[u32]
         ensures value { result.now ≡ self.now }
-        ensures within { length result.now ≤ 64 }
+        ensures within { length result.now ≤ MOST_FILES }
     {
         self.kept.as_slice()
     }
@@ -94,23 +97,23 @@ pub(crate) fn order_of(command: Command, words: &[Bytes]) -> Order
     Order {
         command,
         files: files_of(command, words),
-        script: value_place(command, words, OptionName::Script),
-        journal: value_place(command, words, OptionName::From),
+        script: value_index(command, words, OptionName::Script),
+        journal: value_index(command, words, OptionName::From),
         number: size_of(command, words),
         limits: limits_of(command, words),
-        slice_at: value_place(command, words, OptionName::Slice),
-        budget_at: value_place(command, words, OptionName::Budget),
-        workers_at: value_place(command, words, OptionName::Workers),
-        as_journal: place_of(command, words, Role::Known(OptionName::Journal)).is_some(),
+        slice_at: value_index(command, words, OptionName::Slice),
+        budget_at: value_index(command, words, OptionName::Budget),
+        workers_at: value_index(command, words, OptionName::Workers),
+        as_journal: index_of(command, words, Role::Known(OptionName::Journal)).is_some(),
     }
 }
 
 /// The index of the value of the option, where it is given.
-fn value_place(command: Command, words: &[Bytes], name: OptionName) -> Option<u32>
+fn value_index(command: Command, words: &[Bytes], name: OptionName) -> Option<u32>
     requires { length words.now < 2 ^ 32 }
-    ensures { result ≡ value_place command words.now name }
+    ensures { result ≡ value_index command words.now name }
 {
-    place_of(command, words, Role::Value(name))
+    index_of(command, words, Role::Value(name))
 }
 
 /// The indexes of the files.
@@ -120,18 +123,18 @@ fn files_of(command: Command, words: &[Bytes]) -> FileList
     ensures { result ≡ files_of command words.now }
 {
     if command.takes_files() {
-        places_of_plain(command, words)
+        indexes_of_plain(command, words)
     } else {
         FileList::empty()
     }
 }
 
 /// The indexes of the plain words of a command that takes files.
-fn places_of_plain(command: Command, words: &[Bytes]) -> FileList
+fn indexes_of_plain(command: Command, words: &[Bytes]) -> FileList
     requires few { length words.now < 2 ^ 32 }
     requires files { takes_files command ≡ true }
     requires free { IsFree command words.now }
-    ensures { result ≡ places_before command words.now roles.Plain (length words.now) }
+    ensures { result ≡ indexes_before command words.now roles.Plain (length words.now) }
 {
     let mut files = FileList::empty();
     let mut role = Role::Command;
@@ -151,8 +154,8 @@ fn limits_of(command: Command, words: &[Bytes]) -> Limits
     ensures { result ≡ limits_of command words.now }
 {
     Limits {
-        slice: number_of_option(command, words, OptionName::Slice, 1_000),
-        budget: number_of_option(command, words, OptionName::Budget, 10_000_000),
+        slice: number_of_option(command, words, OptionName::Slice, GIVEN_SLICE),
+        budget: number_of_option(command, words, OptionName::Budget, GIVEN_BUDGET),
         workers: number_of_option(command, words, OptionName::Workers, 0),
     }
 }
@@ -162,9 +165,9 @@ fn number_of_option(command: Command, words: &[Bytes], name: OptionName, default
     requires few { length words.now < 2 ^ 32 }
     requires free { IsFree command words.now }
     requires number { IsSome (bounds_of name) }
-    ensures { result ≡ number_at words.now (value_place command words.now name) default }
+    ensures { result ≡ number_at words.now (value_index command words.now name) default }
 {
-    match value_place(command, words, name) {
+    match value_index(command, words, name) {
         Some(at) => value_of(word_at(words, at as usize)),
         None => default,
     }
@@ -188,7 +191,7 @@ fn size_of_make(words: &[Bytes]) -> u32
     requires free { IsFree commands.Make words.now }
     ensures { result ≡ size_of commands.Make words.now }
 {
-    match place_of(Command::Make, words, Role::Plain) {
+    match index_of(Command::Make, words, Role::Plain) {
         Some(at) => value_of(word_at(words, at as usize)),
         None => 0,
     }

@@ -8,7 +8,7 @@ ghost use Rattle.ci_words.specs.Role.{
   role_at,
   same_role,
   count_before,
-  place_before,
+  index_before,
 };
 
 use crate::command::{Command, OptionName, option_named};
@@ -88,17 +88,17 @@ pub(crate) fn count_before(command: Command, words: &[Bytes], role: Role, end: u
 }
 
 /// The index of the word that has the role; the last one where there are several.
-pub(crate) fn place_of(command: Command, words: &[Bytes], role: Role) -> Option<u32>
+pub(crate) fn index_of(command: Command, words: &[Bytes], role: Role) -> Option<u32>
     requires { length words.now < 2 ^ 32 }
-    ensures { result ≡ place_before command words.now role (length words.now) }
+    ensures { result ≡ index_before command words.now role (length words.now) }
 {
-    let mut place = None;
+    let mut index = None;
     let mut current = Role::Command;
     for at in 0..words.len() {
         if current.is_same(role) {
-            place = Some(at as u32);
+            index = Some(at as u32);
         }
         current = role_after(command, current, word_at(words, at + 1));
     }
-    place
+    index
 }

@@ -1,9 +1,0 @@
-use Rattle.std.proofs.Common.{◌≡◌}
-use Rattle.ci_words.specs.Role.{role_at, place_before}
-use Rattle.ci_words.proofs.role.place_of.Given as goal
-
-abbrev pub invariant-loop-at : goal.invariant-loop-at
-invariant-loop-at l = record {
-  role : l.current ≡ role_at l.command l.words l.at;
-  placed : l.place ≡ place_before l.command l.words l.role l.at;
-}
