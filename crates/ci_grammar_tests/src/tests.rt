@@ -1,6 +1,0 @@
-mod asked;
-mod chains;
-mod nesting;
-mod printer;
-mod productions;
-mod refusals;
