@@ -1,0 +1,7 @@
+mod Examples
+pub mod Least
+pub mod Repeats
+pub mod Searching
+pub mod Spelling
+pub mod Widths
+pub mod Wrapping

@@ -1,0 +1,9 @@
+use Rattle.std.proofs.Common.{◌≡◌, length, map, take}
+use Rattle.std.specs.Char.{to_ascii_lowercase}
+use Rattle.ci_builtin.proofs.letters.str_lower.Given as goal
+
+abbrev pub invariant-loop-b : goal.invariant-loop-b
+invariant-loop-b l = record {
+  count : length l.changed.items ≡ l.b-index;
+  is : l.changed.items ≡ map to_ascii_lowercase (take l.b-index l.bytes);
+}

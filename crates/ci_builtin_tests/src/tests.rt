@@ -1,0 +1,4 @@
+mod given;
+mod operators;
+mod private;
+mod requests;
