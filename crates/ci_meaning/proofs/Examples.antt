@@ -1,0 +1,2 @@
+mod Projects
+mod Tasks

@@ -1,0 +1,5 @@
+mod Examples
+pub mod LeftOut
+mod Rooms
+pub mod Stacks
+mod Weight

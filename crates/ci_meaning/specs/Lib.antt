@@ -1,0 +1,6 @@
+pub mod Configuration
+pub mod Held
+pub mod Laws
+pub mod Meaning
+pub mod Moves
+pub mod Operators

@@ -1,0 +1,20 @@
+//! What one task does, on the tree of its project: the definitions that a run is measured by, and their laws.
+#![tactic(auto)]
+
+mod aims;
+mod calling;
+mod elements;
+mod evaluating;
+mod going;
+mod laws;
+mod operators;
+mod parts;
+mod reaching;
+mod selecting;
+mod stack;
+mod storing;
+mod tree_task;
+mod using;
+
+pub use laws::{always_moves, rooms_stay_small, soon_ticks_or_asks};
+pub use tree_task::{TreeMove, TreeTask};
