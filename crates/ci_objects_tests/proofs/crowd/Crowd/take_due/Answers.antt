@@ -1,0 +1,9 @@
+use Rattle.std.proofs.Common.{◌≤◌, ◌-◌, arith, length, sym, ◌∙◌}
+use Rattle.ci_objects_tests.proofs.Crowded.{fewer_due}
+use Rattle.ci_objects_tests.proofs.crowd.Crowd.take_due.Goals as goal
+
+pub invariant_of-self : goal.invariant_of-self
+invariant_of-self c =
+    let few : length c.take_due.new.self ≤ c.self.inside.many - 1 =
+    fewer_due c.args.now c.self.inside.lines c.take_due.new.self c.self.inside.many c.in-Some.taken (sym c.in-Some.is ∙ c.take_due.ensures.found) c.take_due.ensures.rest c.self.invariant in
+    omega (arith, few, c.saturating_sub-self-inside.ensures)

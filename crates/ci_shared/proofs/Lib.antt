@@ -1,0 +1,15 @@
+pub mod Asks
+pub mod Clocks
+pub mod Counting
+pub mod Dues
+pub mod Examples
+pub mod Fair
+pub mod First
+pub mod Fit
+pub mod Lines
+pub mod Numbers
+pub mod Opening
+pub mod Orders
+pub mod Owed
+pub mod Proved
+pub mod Seats

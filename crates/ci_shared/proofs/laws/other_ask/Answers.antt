@@ -1,0 +1,5 @@
+use Rattle.ci_shared.proofs.Proved
+use Rattle.ci_shared.proofs.laws.other_ask.Goals as goal
+
+pub returns : goal.returns
+returns c = Proved.other_ask

@@ -1,0 +1,11 @@
+pub mod Laws
+pub mod Queues
+pub mod Roster
+pub mod Rows
+pub mod Sections
+pub mod Semaphores
+pub mod Serving
+pub mod Started
+pub mod State
+pub mod Steps
+pub mod Words
