@@ -1,5 +1,7 @@
 pub mod Arithmetic
+pub mod Caret
 pub mod Comparisons
+pub mod FunctionNames
 pub mod Functions
 pub mod Heard
 pub mod Letters

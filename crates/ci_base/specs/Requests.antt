@@ -12,7 +12,7 @@ use Rattle.ci_base.specs.declared.reply.Answer.{Answer}
 use Rattle.ci_base.specs.declared.reply.Extra.{Extra}
 use Rattle.ci_base.specs.declared.reply.Extra.TheVariants as extras
 use Rattle.ci_base.specs.declared.errors.TheConstants.{BAD_ARGUMENT}
-use Rattle.ci_base.specs.Values.{kind_of, is_zero}
+use Rattle.ci_base.specs.Values.{kind_of}
 
 -- values of other kinds, or another number of them, end the task; no project that compiles has this
 abbrev pub misused : Request

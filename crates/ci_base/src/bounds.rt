@@ -82,3 +82,6 @@ pub const GIVEN_BUDGET: u32 = 10_000_000;
 
 /// Worker threads of a run; where the words don't say there is none.
 pub const MOST_WORKERS: u32 = 16;
+
+/// The greatest count of instructions; from there on they aren't counted.
+pub const MOST_INSTRUCTIONS: u64 = 9_223_372_036_854_775_807;

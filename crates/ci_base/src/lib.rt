@@ -4,6 +4,7 @@
 
 pub mod bounds;
 mod bytes;
+mod caret;
 mod entry;
 pub mod errors;
 mod event;
@@ -23,6 +24,7 @@ mod text;
 mod value;
 
 pub use bytes::Bytes;
+pub use caret::put_caret;
 pub use entry::Entry;
 pub use event::{Event, EventKind, EventReply};
 pub use function::{PrivateName, SharedName};

@@ -56,6 +56,16 @@ impl Text {
         }
     }
 
+    /// The text with these bytes, of which there are at most 255.
+    pub fn of_few(bytes: &[u8]) -> Text
+        requires { length bytes.now ≤ MOST_TEXT_BYTES }
+        ensures { result ≡ bytes.now }
+    {
+        let mut kept = ArrayVec::new();
+        let _fits = kept.try_extend_from_slice(bytes);
+        Text { kept }
+    }
+
     /// The bytes of the text.
     pub fn bytes(&self) -> &[u8]
         ensures value { result.now ≡ self.now }
@@ -82,8 +92,6 @@ impl Text {
         ensures value { result ≡ self.now }
         ensures within { length result ≤ MOST_TEXT_BYTES }
     {
-        let mut kept = ArrayVec::new();
-        let _fits = kept.try_extend_from_slice(self.kept.as_slice());
-        Text { kept }
+        Text::of_few(self.bytes())
     }
 }

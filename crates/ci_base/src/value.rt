@@ -5,7 +5,7 @@ ghost use Rattle.ci_base.specs.declared.value.Value.TheVariants.{Int};
 use crate::Text;
 
 /// The two kinds of values.
-#[derive(Clone, Copy, Debug, PartialEq, Eq)]
+#[derive(Clone, Copy, Debug, PartialEq, Eq, Hash)]
 pub enum Kind {
     /// INT, a signed 32-bit number.
     Int,

@@ -42,7 +42,7 @@ fn bound(alloc: Global, trees: &[FileTree]) -> Result<Result<Project, BindFault>
     let names = ProjectNames::of(alloc, trees)?;
     let mut found = None;
     let functions = bound_functions(alloc, &names, &mut found)?;
-    note_variables(alloc, &names, &mut found)?;
+    note_variables(alloc, &names, &mut found);
     match found {
         Some(Fault { file, token, kind }) => Ok(Err(BindFault::Fault { file, token, kind })),
         None => Ok(Ok(made(alloc, functions, names.variables())?)),

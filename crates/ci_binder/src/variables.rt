@@ -1,5 +1,5 @@
 //! The faults of the variables of all files.
-ghost use Rattle.std.specs.Prelude.{◌≡◌, ◌+◌, ◌≤◌, ◌&&◌, nat_le, nat_lt, [], min, take, OnOk};
+ghost use Rattle.std.specs.Prelude.{◌≡◌, ◌+◌, ◌≤◌, ◌&&◌, nat_le, nat_lt, [], min, take};
 ghost use Rattle.std.specs.List.{list_any};
 ghost use Rattle.ci_base.specs.declared.bounds.TheConstants.{MOST_CELLS};
 ghost use Rattle.ci_names.specs.Fault.{noted};
@@ -10,7 +10,6 @@ ghost use Rattle.ci_scopes.specs.Seen.{variable_at, scope_of, declared_of};
 ghost use Rattle.ci_binder.specs.Before.{counted};
 
 use crate::rules::{is_among, note_first};
-use ci_base::OutOfMemory;
 use ci_base::bounds::MOST_CELLS;
 use ci_bodies::{note_if, note_type};
 use ci_names::{BindKind, Fault, Limit};
@@ -94,8 +93,8 @@ pub(crate) fn note_variables<'a>(
     alloc: Global,
     names: &'a ProjectNames<'a>,
     found: &mut Option<Fault>,
-) -> Result<(), OutOfMemory>
-    ensures { OnOk result (found.new ≡ noted found.old (each_behind (variable_faults (declared_of names.now)) [] (declared_of names.now).variables)) }
+)
+    ensures { found.new ≡ noted found.old (each_behind (variable_faults (declared_of names.now)) [] (declared_of names.now).variables) }
 {
     let all = names.variables();
     let mut cells = 0;
@@ -104,5 +103,4 @@ pub(crate) fn note_variables<'a>(
         note_variable(names, &scope, found, count, cells, v);
         cells = counted_with(cells, size(v.length));
     }
-    Ok(())
 }

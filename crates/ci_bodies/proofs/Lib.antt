@@ -9,3 +9,4 @@ pub mod Statements
 pub mod LabelSteps
 pub mod LocalSteps
 pub mod BodySteps
+pub mod Depths

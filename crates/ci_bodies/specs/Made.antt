@@ -1,5 +1,5 @@
 -- Which bound tree a value of the code is, among the functions that are seen in a scope: the values for arguments left out are theirs.
-use Rattle.std.specs.Prelude.{List}
+use Rattle.std.specs.Prelude.{List, Option, option_map}
 use Rattle.ci_tree.specs.declared.bound.Expr as code_expr
 use Rattle.ci_tree.specs.declared.bound.Call as code_call
 use Rattle.ci_tree.specs.declared.bound.Link as code_link
@@ -7,6 +7,7 @@ use Rattle.ci_tree.specs.declared.bound.Label as code_label
 use Rattle.ci_tree.specs.declared.bound.Stmt as code_stmt
 use Rattle.ci_tree.specs.declared.bound.Clause as code_clause
 use Rattle.ci_tree.specs.Bound as to
+use Rattle.ci_tree.specs.Bound.{other_from}
 use Rattle.ci_tree.specs.SeenBound as bound
 use Rattle.ci_names.specs.Scopes.{Scope}
 use Rattle.ci_names.specs.Binding.{heads_in}
@@ -37,6 +38,10 @@ clause_in s = bound.clause_of (heads_in s.declared)
 
 abbrev pub block_in : Scope → List code_stmt.Stmt → to.Block
 block_in s = bound.block_of (heads_in s.declared)
+
+-- the body behind ELSE, where there is one
+abbrev pub other_in : Scope → Option (List code_stmt.Stmt) → to.Other
+other_in s other = other_from (option_map (block_in s) other)
 
 abbrev pub clauses_in : Scope → List code_clause.Clause → to.Clauses
 clauses_in s = bound.clauses_of (heads_in s.declared)

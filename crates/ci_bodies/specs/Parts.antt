@@ -88,6 +88,6 @@ AreBoundLabels s labels made = map (label_in s) made ≡ map (bound_label s) lab
 
 -- Statements
 
--- what this puts before the statements that follow stands behind what was made before it
-abbrev pub StandBehind : Scope → (to.Block → to.Block) → List code_stmt.Stmt → List code_stmt.Stmt → Type 0
-StandBehind s before old new = (rest : to.Block) → stmts_in_front (map (stmt_in s) new) rest ≡ stmts_in_front (map (stmt_in s) old) (before rest)
+-- behind what was made before stands now what this puts before the statements that follow
+abbrev pub IsAppended : Scope → (to.Block → to.Block) → List code_stmt.Stmt → List code_stmt.Stmt → Type 0
+IsAppended s before old new = (rest : to.Block) → stmts_in_front (map (stmt_in s) new) rest ≡ stmts_in_front (map (stmt_in s) old) (before rest)

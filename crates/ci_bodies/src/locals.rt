@@ -7,7 +7,7 @@ ghost use Rattle.ci_names.specs.Scopes.{with_locals, declared_local};
 ghost use Rattle.ci_names.specs.Statements.{type_faults, local_name, maybe, part_faults, locals_faults};
 ghost use Rattle.ci_names.specs.Binding.{set_before, locals_before};
 ghost use Rattle.ci_scopes.specs.Seen.{scope_of};
-ghost use Rattle.ci_bodies.specs.Parts.{Notes, StandBehind};
+ghost use Rattle.ci_bodies.specs.Parts.{Notes, IsAppended};
 
 use crate::expressions::part;
 use crate::faults::note_if;
@@ -73,7 +73,7 @@ fn first_value(
     at: u32,
     value: &Option<Expr>,
 ) -> Result<(), OutOfMemory>
-    ensures tree { OnOk result (StandBehind (scope_of scope.now) (set_before (scope_of scope.now) at (option_map expr_of value.now)) into.old into.new) }
+    ensures tree { OnOk result (IsAppended (scope_of scope.now) (set_before (scope_of scope.now) at (option_map expr_of value.now)) into.old into.new) }
     ensures found { OnOk result (Notes (maybe (part_faults (scope_of scope.now) kind) (option_map expr_of value.now)) found.old found.new) }
 {
     match value {
@@ -98,7 +98,7 @@ fn local<'a>(
     kind: Kind,
     local: &'a LocalAt,
 ) -> Result<(), OutOfMemory>
-    ensures tree { OnOk result (StandBehind (scope_of scope.old) (set_before (scope_of scope.old) (local_of local.now).at (local_of local.now).value) into.old into.new) }
+    ensures tree { OnOk result (IsAppended (scope_of scope.old) (set_before (scope_of scope.old) (local_of local.now).at (local_of local.now).value) into.old into.new) }
     ensures found { OnOk result (Notes (local_name (scope_of scope.old) (local_of local.now).at (local_of local.now).name ++ maybe (part_faults (scope_of scope.old) kind) (local_of local.now).value) found.old found.new) }
     ensures scope { OnOk result (scope_of scope.new ≡ with_locals (scope_of scope.old) (declared_local kind (local_of local.now) ∷ [])) }
 {
@@ -117,7 +117,7 @@ fn locals<'a>(
     kind: Kind,
     locals: &'a [LocalAt],
 ) -> Result<(), OutOfMemory>
-    ensures tree { OnOk result (StandBehind (scope_of scope.old) (locals_before (scope_of scope.old) kind (map local_of locals.now)) into.old into.new) }
+    ensures tree { OnOk result (IsAppended (scope_of scope.old) (locals_before (scope_of scope.old) kind (map local_of locals.now)) into.old into.new) }
     ensures found { OnOk result (Notes (locals_faults (scope_of scope.old) kind (map local_of locals.now)) found.old found.new) }
     ensures scope { OnOk result (scope_of scope.new ≡ with_locals (scope_of scope.old) (map (declared_local kind) (map local_of locals.now))) }
 {
@@ -136,7 +136,7 @@ pub fn declare<'a>(
     kind: TypeAt,
     names: &'a [LocalAt],
 ) -> Result<(), OutOfMemory>
-    ensures tree { OnOk result (StandBehind (scope_of scope.old) (locals_before (scope_of scope.old) (kind_of_type kind.name) (map local_of names.now)) into.old into.new) }
+    ensures tree { OnOk result (IsAppended (scope_of scope.old) (locals_before (scope_of scope.old) (kind_of_type kind.name) (map local_of names.now)) into.old into.new) }
     ensures found { OnOk result (Notes (type_faults (scope_of scope.old) kind ++ locals_faults (scope_of scope.old) (kind_of_type kind.name) (map local_of names.now)) found.old found.new) }
     ensures scope { OnOk result (scope_of scope.new ≡ with_locals (scope_of scope.old) (map (declared_local (kind_of_type kind.name)) (map local_of names.now))) }
 {

@@ -4,7 +4,6 @@ ghost use Rattle.std.specs.List.{repeat};
 ghost use Rattle.ci_base.specs.declared.bounds.TheConstants.{MOST_TEXT_BYTES};
 ghost use Rattle.ci_base.specs.TextFunctions as texts;
 
-use crate::parts::text_of;
 use arrayvec::ArrayVec;
 use ci_base::bounds::MOST_TEXT_BYTES;
 use ci_base::errors::TEXT_TOO_LONG;
@@ -45,5 +44,5 @@ fn repeated(piece: &[u8], count: usize) -> Text
     for offset in 0..count {
         kept.push(piece[offset % piece.len()]);
     }
-    text_of(kept.as_slice())
+    Text::of_few(kept.as_slice())
 }

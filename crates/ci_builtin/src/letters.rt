@@ -1,14 +1,13 @@
 //! Letter case, and what stands at the ends of texts.
-ghost use Rattle.std.specs.Prelude.{◌≡◌, ◌-◌, ◌≤◌, length};
-ghost use Rattle.std.specs.List.{prefix_len, suffix_len};
+ghost use Rattle.std.specs.Prelude.{◌≡◌};
 ghost use Rattle.ci_base.specs.declared.bounds.TheConstants.{MOST_TEXT_BYTES};
 ghost use Rattle.ci_base.specs.declared.value.Value.TheVariants.{Str};
 ghost use Rattle.ci_base.specs.TextFunctions as texts;
 
-use crate::parts::text_of;
 use arrayvec::ArrayVec;
 use ci_base::bounds::MOST_TEXT_BYTES;
 use ci_base::{Text, Value};
+use ci_literals::Edge;
 
 /// `StrUpper(s)`: each ASCII letter as a capital.
 pub fn str_upper(s: &Text) -> Result<Value, u8>
@@ -19,7 +18,7 @@ pub fn str_upper(s: &Text) -> Result<Value, u8>
     for b in bytes {
         changed.push(b.to_ascii_uppercase());
     }
-    Ok(Value::Str(text_of(changed.as_slice())))
+    Ok(Value::Str(Text::of_few(changed.as_slice())))
 }
 
 /// `StrLower(s)`: each ASCII letter as a small one.
@@ -31,68 +30,12 @@ pub fn str_lower(s: &Text) -> Result<Value, u8>
     for b in bytes {
         changed.push(b.to_ascii_lowercase());
     }
-    Ok(Value::Str(text_of(changed.as_slice())))
-}
-
-/// What is left out at both ends of a text.
-#[derive(Clone, Copy, Debug, PartialEq, Eq)]
-pub enum Edge {
-    /// Spaces.
-    Spaces,
-    /// Spaces and tabs.
-    Blanks,
-}
-
-impl Edge {
-    ghost use Rattle.ci_builtin.specs.Edges.{leaves_out};
-
-    /// Whether the byte is left out.
-    pub fn leaves_out(self, byte: u8) -> bool
-        ensures { result ≡ leaves_out self byte }
-    {
-        match self {
-            Edge::Spaces => byte == b' ',
-            Edge::Blanks => byte == b' ' || byte == b'\t',
-        }
-    }
-
-    /// How many bytes at the front are left out.
-    fn leading(self, bytes: &[u8]) -> usize
-        ensures value { result ≡ prefix_len (leaves_out self) bytes.now }
-        ensures within { result ≤ length bytes.now }
-    {
-        let mut count = 0;
-        while count < bytes.len() && self.leaves_out(bytes[count]) {
-            count += 1;
-        }
-        count
-    }
-
-    /// Where those at the end begin that are left out.
-    fn end_of(self, bytes: &[u8]) -> usize
-        ensures value { result ≡ length bytes.now - suffix_len (leaves_out self) bytes.now }
-        ensures within { result ≤ length bytes.now }
-    {
-        let mut end = bytes.len();
-        while end > 0 && self.leaves_out(bytes[end - 1]) {
-            end -= 1;
-        }
-        end
-    }
-
-    /// The bytes without those that are left out at the front and at the end.
-    pub fn trimmed(self, bytes: &[u8]) -> &[u8]
-        ensures value { result.now ≡ texts.trimmed (leaves_out self) bytes.now }
-        ensures short { length result.now ≤ length bytes.now }
-    {
-        let behind = &bytes[self.leading(bytes)..];
-        &behind[..self.end_of(behind)]
-    }
+    Ok(Value::Str(Text::of_few(changed.as_slice())))
 }
 
 /// `StrTrim(s)`: the text without spaces and tabs at both ends.
 pub fn str_trim(s: &Text) -> Result<Value, u8>
     ensures { result ≡ Ok (Str (texts.trimmed texts.is_blank s.now)) }
 {
-    Ok(Value::Str(text_of(Edge::Blanks.trimmed(s.bytes()))))
+    Ok(Value::Str(Text::of_few(Edge::Blanks.trimmed(s.bytes()))))
 }

@@ -5,12 +5,11 @@ ghost use Rattle.ci_base.specs.declared.bounds.TheConstants.{MOST_TEXT_BYTES};
 ghost use Rattle.ci_base.specs.declared.value.Value.TheVariants.{Str};
 ghost use Rattle.ci_base.specs.TextFunctions as texts;
 
-use crate::letters::Edge;
-use crate::parts::text_of;
 use arrayvec::ArrayVec;
 use ci_base::bounds::MOST_TEXT_BYTES;
 use ci_base::errors::{NOT_A_NUMBER, TEXT_TOO_LONG};
 use ci_base::{Text, Value};
+use ci_literals::Edge;
 use itoa::Buffer;
 
 /// `IntToStr(n)`: decimal digits, with `-` before them where n is negative.
@@ -18,7 +17,7 @@ pub fn int_to_str(n: i32) -> Result<Value, u8>
     ensures { result ≡ Ok (Str (signed_decimal n)) }
 {
     let mut buffer = Buffer::new();
-    Ok(Value::Str(text_of(buffer.format(n).as_bytes())))
+    Ok(Value::Str(Text::of_few(buffer.format(n).as_bytes())))
 }
 
 /// `n:##..`, with so many hashes: the decimal text, with spaces before it up to that width. Run error 9 where the width is
@@ -46,7 +45,7 @@ fn padded(n: i32, width: usize) -> Text
         kept.push(b' ');
     }
     let _fits = kept.try_extend_from_slice(digits);
-    text_of(kept.as_slice())
+    Text::of_few(kept.as_slice())
 }
 
 /// `StrToInt(s)`: the INT that the text spells, with spaces at both ends or not. Run error 13 where it spells none.
@@ -73,5 +72,5 @@ fn spelled_int(bytes: &[u8]) -> Result<Value, u8>
 pub fn char_to_str(n: i32) -> Result<Value, u8>
     ensures { result ≡ Ok (Str (texts.one_byte n)) }
 {
-    Ok(Value::Str(text_of(&[n.rem_euclid(256) as u8])))
+    Ok(Value::Str(Text::of_few(&[n.rem_euclid(256) as u8])))
 }

@@ -1,21 +1,9 @@
 //! Parts of texts.
-ghost use Rattle.std.specs.Prelude.{◌≡◌, ◌≤◌, length, pos};
-ghost use Rattle.ci_base.specs.declared.bounds.TheConstants.{MOST_TEXT_BYTES};
+ghost use Rattle.std.specs.Prelude.{◌≡◌, length, pos};
 ghost use Rattle.ci_base.specs.declared.value.Value.TheVariants.{Int, Str};
 ghost use Rattle.ci_base.specs.TextFunctions as texts;
 
 use ci_base::{Text, Value};
-
-/// The text with these bytes.
-pub fn text_of(bytes: &[u8]) -> Text
-    requires { length bytes.now ≤ MOST_TEXT_BYTES }
-    ensures { result ≡ bytes.now }
-{
-    match Text::of(bytes) {
-        Some(text) => text,
-        None => unreachable!(),
-    }
-}
 
 /// How many bytes an INT asks for: none where it is negative.
 pub fn count_of(n: i32) -> usize
@@ -37,7 +25,7 @@ pub fn str_left(s: &Text, n: i32) -> Result<Value, u8>
 {
     let bytes = s.bytes();
     let end = count_of(n).min(bytes.len());
-    Ok(Value::Str(text_of(&bytes[..end])))
+    Ok(Value::Str(Text::of_few(&bytes[..end])))
 }
 
 /// `StrRight(s, n)`: the last n bytes, or all.
@@ -46,7 +34,7 @@ pub fn str_right(s: &Text, n: i32) -> Result<Value, u8>
 {
     let bytes = s.bytes();
     let start = bytes.len().saturating_sub(count_of(n));
-    Ok(Value::Str(text_of(&bytes[start..])))
+    Ok(Value::Str(Text::of_few(&bytes[start..])))
 }
 
 /// `StrMid(s, n, m)`: the m bytes from offset n on, or as many as there are.
@@ -60,7 +48,7 @@ pub fn str_mid(s: &Text, n: i32, m: i32) -> Result<Value, u8>
     let start = count_of(n).min(bytes.len());
     let behind = &bytes[start..];
     let end = count_of(m).min(behind.len());
-    Ok(Value::Str(text_of(&behind[..end])))
+    Ok(Value::Str(Text::of_few(&behind[..end])))
 }
 
 /// `StrGetChar(s, n)`: the byte at offset n, or 0 where there is none.

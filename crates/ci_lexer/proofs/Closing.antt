@@ -1,5 +1,5 @@
 -- Where a comment is closed, and where a hexadecimal number is split.
-use Rattle.std.proofs.Common.{◌≡◌, ℕ, ◌+◌, ◌-◌, ◌*◌, ◌^◌, ◌<◌, ◌≤◌, true, false, ◌&&◌, ◌||◌, List, [], ◌∷◌, ◌++◌, length, take, drop, get_or, sym, refl, ap, ap₂, ◌∙◌, subst, arith, ◌==◌, suc, append_assoc, take_at, cond, true≢false, mul-le-mul, le-mul_of_pos_right}
+use Rattle.std.proofs.Common.{◌≡◌, ℕ, ◌+◌, ◌-◌, ◌≤◌, true, false, ◌&&◌, ◌||◌, List, [], ◌∷◌, ◌++◌, length, take, drop, get_or, sym, refl, ap, ap₂, ◌∙◌, subst, arith, ◌==◌, suc, append_assoc, take_at, cond, true≢false}
 use Rattle.std.specs.List.{list_all}
 use Rattle.std.specs.Str.Parse.{digits_value}
 use Rattle.std.proofs.lemmas.Bool.{and_parts, and_from, or_left, both_ways, eqb-true, false_from_ne_true}
@@ -19,7 +19,8 @@ use Rattle.ci_base.specs.Texts.{AreItems, BeginsItem}
 use Rattle.ci_tree.specs.Tokens.{TokenAt}
 use Rattle.ci_tree.specs.declared.token.TokenKind.TheVariants as kinds
 use Rattle.ci_lexer.specs.declared.fault.LexFault.TheVariants.{BadEscape, TextTooLong, OpenString}
-use Rattle.ci_lexer.specs.Faults.{FaultAt, stops_text}
+use Rattle.ci_lexer.specs.Faults.{FaultAt}
+use Rattle.ci_literals.specs.Items.{stops_text}
 use Rattle.ci_lexer.specs.Faults.FaultAt.{bad_escape, text_too_long, open_string}
 use Rattle.ci_lexer.proofs.Steps.{first_rest, first_lead, not_number}
 
@@ -107,18 +108,6 @@ hexadecimal_split (z ∷ x ∷ t) digits rest start e all stop =
     let spelled : take (2 + length digits) (z ∷ x ∷ t) ≡ z ∷ x ∷ digits =
     ap (λ n. take n (z ∷ x ∷ t)) count ∙ ap (λ l. z ∷ x ∷ take (length digits) l) behind ∙ ap (λ l. z ∷ x ∷ l) (take_at digits rest (length digits) refl) in
     subst (IsSplit (z ∷ x ∷ t) digits rest) (sym spelled) (split_at z x t digits rest start behind all stop)
-
--- what the value of digits is after one more
-pub value_step : (base limit value sum digit : ℕ) → 1 ≤ base → base ≤ 16 → limit < 2 ^ 32 → value ≤ limit → value ≡ sum → digit ≤ 36 → (value * base + digit < 2 ^ 40) × (value * base + digit ≡ sum * base + digit)
-value_step base limit value sum digit least most bound small same low = (
-  (let below : value ≤ 2 ^ 32 = omega arith in let product : value * base ≤ 2 ^ 32 * 16 = mul-le-mul below most in omega arith),
-  ap (λ n. n * base + digit) same,
-)
-
--- above the limit it stays there
-pub value_above : (base limit sum digit : ℕ) → 1 ≤ base → limit < sum → limit < sum * base + digit
-value_above base limit sum digit least above =
-    let more : sum ≤ sum * base = le-mul_of_pos_right sum least in omega arith
 
 pub split_value : {s digits rest spelled : List ℕ} → IsSplit s digits rest spelled → number_value spelled ≡ digits_value 16 digits
 split_value {s} {digits} {rest} {spelled} split =

@@ -23,17 +23,17 @@ use Rattle.ci_lexer.specs.declared.fault.LexFault.{LexFault}
 use Rattle.ci_lexer.specs.declared.fault.LexFault.TheVariants as faults
 use Rattle.ci_lexer.specs.declared.lead.Lead.{Lead}
 use Rattle.ci_lexer.specs.declared.lead.Lead.TheVariants.{Letter, Digit, White, Quote, Hash, Mark, Slash, Other}
-use Rattle.ci_lexer.specs.Items.{hex_escape}
+use Rattle.ci_literals.specs.Items.{hex_escape}
 use Rattle.ci_lexer.specs.Faults.{FaultAt}
 use Rattle.ci_lexer.specs.Faults.FaultAt.{open_comment}
 use Rattle.ci_lexer.specs.Comments.{IsClosed, closes}
 use Rattle.ci_lexer.specs.Numbers.{hex_start}
 use Rattle.ci_lexer.specs.Signs.{single_sign, double_sign, double_at}
 use Rattle.ci_lexer.specs.Leads.{lead, Leads}
-use Rattle.ci_lexer.proofs.Items.{no_item, no_item_end}
+use Rattle.ci_literals.proofs.Cuts.{no_item, no_item_end}
 use Rattle.ci_lexer.proofs.Backs.{slash-lead}
 use Rattle.ci_lexer.proofs.Closing.{closed_here, closed_step, has_close-step, slash_alone, decimal_number, decimal_longest, split_at, text_step, escape_fault, long_fault, open_fault}
-use Rattle.ci_lexer.proofs.Escaping.{plain_at, end_at, short_at, hex_at, no_escape}
+use Rattle.ci_literals.proofs.Escaping.{plain_at, end_at, short_at, hex_at, no_escape}
 use Rattle.ci_lexer.proofs.Reading.{shorter, mark_short}
 use Rattle.ci_lexer.proofs.Steps.{white_step, hash_step, hash_fault, mark_step, slashed_step, enclosed_step, slash_step, word_name, word_step, word_fault, sign_step, stray_fault, double_at_sign, single_at_sign, no_sign, number_fault, run_on_fault}
 use Rattle.ci_lexer.proofs.Words.{reserved_spells}

@@ -26,10 +26,11 @@ use Rattle.ci_lexer.specs.declared.fault.LexFault.{LexFault}
 use Rattle.ci_lexer.specs.declared.fault.LexFault.TheVariants as faults
 use Rattle.ci_lexer.specs.declared.lead.Lead.{Lead}
 use Rattle.ci_lexer.specs.declared.lead.Lead.TheVariants.{Letter, Digit, White, Quote, Hash, Mark, Slash, Other}
-use Rattle.ci_lexer.specs.Faults.{FaultAt, stops_text}
+use Rattle.ci_lexer.specs.Faults.{FaultAt}
+use Rattle.ci_literals.specs.Items.{stops_text}
 use Rattle.ci_lexer.specs.Signs.{single_sign, double_sign}
 use Rattle.ci_lexer.specs.Leads.{lead}
-use Rattle.ci_lexer.proofs.Items.{Compared, compare, no_item_quote, no_item_stop}
+use Rattle.ci_literals.proofs.Cuts.{Compared, compare, no_item_quote, no_item_stop}
 use Rattle.ci_lexer.proofs.Leading.{lead-letter, lead-white, lead-hash, lead-quote, lead-mark, lead-slash, number_lead}
 use Rattle.ci_lexer.proofs.Reading.{shape_some}
 use Rattle.ci_lexer.proofs.Wholes.{has_close-append, opened_whole}

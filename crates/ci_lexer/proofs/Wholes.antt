@@ -17,7 +17,7 @@ use Rattle.ci_tree.specs.Signs.{sign_bytes}
 use Rattle.ci_lexer.specs.declared.lead.Lead.TheVariants.{Letter, Digit, White, Quote, Hash, Mark, Slash, Other}
 use Rattle.ci_lexer.specs.Numbers.{hex_start}
 use Rattle.ci_lexer.specs.Leads.{lead}
-use Rattle.ci_lexer.proofs.Items.{one_cut, no_item_quote}
+use Rattle.ci_literals.proofs.Cuts.{one_cut, no_item_quote}
 use Rattle.ci_lexer.proofs.Leading.{Follows, follows_lead, lead-letter, lead-digit, lead-white, lead-hash, lead-quote, lead-mark, lead-slash, lead-zero, hex_first}
 use Rattle.ci_lexer.proofs.Runs.{stops}
 

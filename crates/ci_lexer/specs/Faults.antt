@@ -1,10 +1,11 @@
 -- Sources that have no tokens.
-use Rattle.std.specs.Prelude.{◌≡◌, ℕ, ◌+◌, ◌<◌, ◌≤◌, Bool, true, List, [], ◌∷◌, ◌++◌, length, IsTrue, ℤ}
+use Rattle.std.specs.Prelude.{◌≡◌, ℕ, ◌+◌, ◌<◌, ◌≤◌, true, List, ◌∷◌, ◌++◌, length, IsTrue, ℤ}
 use Rattle.ci_base.specs.declared.bounds.TheConstants.{MOST_NAME_BYTES, MOST_TEXT_BYTES, MOST_HASHES}
-use Rattle.ci_base.specs.Letters.{is_letter, is_line_end, is_run}
+use Rattle.ci_base.specs.Letters.{is_letter, is_run}
 use Rattle.ci_base.specs.Names.{is_name}
 use Rattle.ci_base.specs.Numbers.{is_number, number_value, number_limit}
 use Rattle.ci_base.specs.Texts.{AreItems, BeginsItem}
+use Rattle.ci_literals.specs.Items.{stops_text}
 use Rattle.ci_tree.specs.declared.token.Token.{Token}
 use Rattle.ci_tree.specs.declared.token.TokenKind.TheVariants.{Number}
 use Rattle.ci_tree.specs.Comments.{IsOpenComment}
@@ -12,11 +13,6 @@ use Rattle.ci_tree.specs.Shapes.{Shape, IsWhole, is_hash}
 use Rattle.ci_tree.specs.Tokens.{Spells, Reads, after_mark}
 use Rattle.ci_lexer.specs.declared.fault.LexFault.{LexFault}
 use Rattle.ci_lexer.specs.declared.fault.LexFault.TheVariants.{StrayByte, OpenString, OpenComment, BadEscape, NumberTooLarge, TextTooLong, NameTooLong}
-
--- nothing is left, or a line ends
-abbrev pub stops_text : List ℕ → Bool
-stops_text [] = true
-stops_text (b ∷ s) = is_line_end b
 
 -- in a source of this size, its end s begins with what is refused; a place is the number of bytes before it
 pub data FaultAt (size : ℕ) : List ℕ → LexFault → Type 0 where

@@ -2,7 +2,6 @@ pub mod Classes
 pub mod Comments
 pub mod Faults
 pub mod Fronts
-pub mod Items
 pub mod Keywords
 pub mod Laws
 pub mod Leads

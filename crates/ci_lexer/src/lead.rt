@@ -1,7 +1,9 @@
 //! What the first byte of a token tells.
 ghost use Rattle.std.specs.Prelude.{◌≡◌, ◌==◌};
-ghost use Rattle.ci_base.specs.Letters.{begins, is_digit, is_hex_digit, is_letter, is_white};
+ghost use Rattle.ci_base.specs.Letters.{begins, is_white};
 ghost use Rattle.ci_lexer.specs.Leads.{lead};
+
+use ci_literals::{is_digit, is_letter};
 
 /// What may begin with a byte.
 #[derive(Clone, Copy, Debug, PartialEq, Eq)]
@@ -46,30 +48,6 @@ pub fn lead_of(b: u8) -> Lead
     } else {
         Lead::Other
     }
-}
-
-/// Whether the byte is a letter or `_`.
-#[tactic(auto, unfolding(ci_base::specs::Letters::is_letter, ci_base::specs::Letters::is_capital, ci_base::specs::Letters::is_small))]
-pub fn is_letter(b: u8) -> bool
-    ensures { result ≡ is_letter b }
-{
-    (b >= b'A' && b <= b'Z') || (b >= b'a' && b <= b'z') || b == b'_'
-}
-
-/// Whether the byte is one of 0 to 9.
-#[tactic(auto, unfolding(ci_base::specs::Letters::is_digit))]
-pub fn is_digit(b: u8) -> bool
-    ensures { result ≡ is_digit b }
-{
-    b >= b'0' && b <= b'9'
-}
-
-/// Whether the byte is one of 0 to 9, A to F and a to f.
-#[tactic(auto, unfolding(ci_base::specs::Letters::is_hex_digit))]
-pub fn is_hex_digit(b: u8) -> bool
-    ensures { result ≡ is_hex_digit b }
-{
-    is_digit(b) || (b >= b'A' && b <= b'F') || (b >= b'a' && b <= b'f')
 }
 
 /// Whether the byte is white space.

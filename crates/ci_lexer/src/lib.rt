@@ -16,3 +16,4 @@ mod word;
 pub use fault::LexFault;
 pub use laws::one_reading;
 pub use lexing::lex;
+pub use word::is_name;

@@ -3,8 +3,6 @@ ghost use Rattle.std.specs.Prelude.{◌≡◌, ◌+◌, ◌^◌, ◌<◌, ◌≤
 ghost use Rattle.ci_lexer.specs.Faults.{FaultAt};
 ghost use Rattle.ci_lexer.specs.Fronts.{FrontAt};
 ghost use Rattle.ci_lexer.specs.Leads.{Leads};
-ghost use Rattle.std.specs.Char.{digit_value};
-ghost use Rattle.std.specs.Str.Parse.{digits_value};
 ghost use Rattle.ci_base.specs.declared.bounds.TheConstants.{MOST_SOURCE_BYTES};
 ghost use Rattle.ci_base.specs.Letters.{begins, is_letter};
 ghost use Rattle.ci_base.specs.Numbers.{is_number, number_limit, number_value};
@@ -12,9 +10,10 @@ ghost use Rattle.ci_tree.specs.Shapes.{IsWhole};
 ghost use Rattle.ci_lexer.specs.Numbers.{hex_start};
 
 use crate::fault::LexFault;
-use crate::lead::{Lead, is_hex_digit, is_letter};
+use crate::lead::Lead;
 use crate::run::{Class, split_run};
 use crate::step::{Front, Step};
+use ci_literals::{is_hex_digit, is_letter, value_of};
 use ci_tree::TokenKind;
 
 /// A number, behind which no letter and no `_` may stand.
@@ -48,7 +47,7 @@ fn scan_hexadecimal(rest: &[u8], at: u32) -> Result<Step<'_>, LexFault>
     ensures err { IfErr result (λ fault. fault ≢ LexFault.Memory → FaultAt (at + length rest.now) rest.now fault) }
 {
     let (digits, behind) = split_run(&rest[2..], Class::HexDigit);
-    let value = value_of(digits, 16, 4_294_967_295);
+    let value = value_of(digits, 16, u32::MAX);
     number(rest, &rest[..2 + digits.len()], behind, value, at)
 }
 
@@ -98,46 +97,4 @@ fn begins_letter(bytes: &[u8]) -> bool
     ensures { result ≡ begins is_letter bytes.now }
 {
     bytes.len() > 0 && is_letter(bytes[0])
-}
-
-/// The value of the digits in the base, or none where it is above the limit.
-fn value_of(digits: &[u8], base: u64, limit: u64) -> Option<u32>
-    requires least { 1 ≤ base }
-    requires most { base ≤ 16 }
-    requires limit { limit < 2 ^ 32 }
-    ensures { MatchOption result (limit < digits_value base digits.now) (λ n. (n ≡ digits_value base digits.now) × (n ≤ limit)) }
-{
-    let mut value: u64 = 0;
-    for digit in digits {
-        if value <= limit {
-            value = value * base + digit_value(*digit) as u64;
-        }
-    }
-    if value <= limit {
-        Some(value as u32)
-    } else {
-        None
-    }
-}
-
-/// The value of a digit or a letter, and 36 for any other byte.
-pub fn digit_value(digit: u8) -> u8
-    ensures value { result ≡ digit_value digit }
-    ensures small { result ≤ 36 }
-{
-    if digit < b'0' {
-        36
-    } else if digit <= b'9' {
-        digit - b'0'
-    } else if digit < b'A' {
-        36
-    } else if digit <= b'Z' {
-        digit - 55
-    } else if digit < b'a' {
-        36
-    } else if digit <= b'z' {
-        digit - 87
-    } else {
-        36
-    }
 }

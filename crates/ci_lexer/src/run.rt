@@ -4,7 +4,8 @@ ghost use Rattle.std.specs.List.{list_all};
 ghost use Rattle.ci_base.specs.Letters.{begins};
 ghost use Rattle.ci_lexer.specs.Classes.{passes};
 
-use crate::lead::{is_digit, is_hex_digit, is_letter, is_white};
+use crate::lead::is_white;
+use ci_literals::{is_digit, is_hex_digit, is_letter};
 
 /// A class of bytes.
 #[derive(Clone, Copy, Debug, PartialEq, Eq)]

@@ -1,5 +1,5 @@
 //! Names and keywords.
-ghost use Rattle.std.specs.Prelude.{◌≡◌, ◌+◌, ◌<◌, ◌≤◌, ◌≢◌, true, Some, IfOk, IfErr, length};
+ghost use Rattle.std.specs.Prelude.{◌≡◌, ◌+◌, ◌<◌, ◌≤◌, ◌≢◌, ◌↔◌, true, Some, IfOk, IfErr, IsTrue, length};
 ghost use Rattle.ci_base.specs.declared.bounds.TheConstants.{MOST_NAME_BYTES, MOST_SOURCE_BYTES};
 ghost use Rattle.ci_lexer.specs.Faults.{FaultAt};
 ghost use Rattle.ci_lexer.specs.Fronts.{FrontAt};
@@ -7,7 +7,7 @@ ghost use Rattle.ci_lexer.specs.Keywords.{spelled, truth_values};
 ghost use Rattle.ci_lexer.specs.Leads.{Leads};
 ghost use Rattle.ci_base.specs.Letters.{capital};
 ghost use Rattle.ci_base.specs.Names.{is_name};
-ghost use Rattle.ci_tree.specs.Tokens.{Spells};
+ghost use Rattle.ci_tree.specs.Tokens.{IsKept, Spells};
 ghost use Rattle.ci_tree.specs.Words.{look_up, reserved, table};
 
 use crate::fault::LexFault;
@@ -17,6 +17,7 @@ use crate::step::{Front, Step};
 use arrayvec::ArrayVec;
 use ci_base::Bytes;
 use ci_base::bounds::MOST_NAME_BYTES;
+use ci_literals::is_word;
 use ci_tree::{Keyword, TokenKind};
 use std::alloc::Global;
 
@@ -144,5 +145,18 @@ fn truth_value(word: &[u8]) -> Option<TokenKind>
         Some(TokenKind::Number(0))
     } else {
         None
+    }
+}
+
+/// Whether these bytes are a name: a letter or `_`, then letters, digits and `_`, at most 64 bytes together, and no keyword.
+pub fn is_name(word: &[u8]) -> bool
+    ensures { IsTrue result ↔ IsKept (TokenKind.Name word.now) }
+{
+    if word.len() > MOST_NAME_BYTES || !is_word(word) {
+        return false;
+    }
+    match reserved(word) {
+        Some(_) => false,
+        None => true,
     }
 }

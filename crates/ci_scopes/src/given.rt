@@ -71,7 +71,7 @@ fn shared_takes(alloc: Global, of: SharedName) -> Result<Items<Taken>, OutOfMemo
     match of {
         SharedName::TaskHnd => task_hnd_takes(alloc),
         SharedName::QueRead => que_read_takes(alloc),
-        _ => by_values(alloc, spelling::shared_takes(of)),
+        _ => by_values(alloc, of.takes()),
     }
 }
 
@@ -82,13 +82,13 @@ impl GivenAt {
     fn private(alloc: Global, of: PrivateName) -> Result<GivenAt, OutOfMemory>
         ensures { IfOk result (λ row. given_row row ≡ private_given of) }
     {
-        let takes = by_values(alloc, spelling::private_takes(of))?;
+        let takes = by_values(alloc, of.takes())?;
         Ok(GivenAt {
-            name: spelling::private_spelling(of),
+            name: of.spelling(),
             callee: Callee::Private(of),
             heading: Heading {
                 takes,
-                gives: Some(spelling::private_gives(of)),
+                gives: Some(of.gives()),
             },
         })
     }

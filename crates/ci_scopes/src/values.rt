@@ -42,10 +42,7 @@ pub fn value_of(first: &Const) -> Value
 {
     match first {
         Const::Number { value, .. } => Value::Int(*value),
-        Const::Literal { text, .. } => match Text::of(text.bytes()) {
-            Some(text) => Value::Str(text),
-            None => unreachable!(),
-        },
+        Const::Literal { text, .. } => Value::Str(Text::of_few(text.bytes())),
     }
 }
 

@@ -28,17 +28,6 @@ pub fn layout(alloc: Allocator, project: &Project) -> Result<Layout, OutOfMemory
     })
 }
 
-/// A name as a text.
-fn text_of(name: &Bytes) -> Text
-    requires { length name.now ≤ MOST_TEXT_BYTES }
-    ensures { result ≡ name.now }
-{
-    match Text::of(name.bytes()) {
-        Some(text) => text,
-        None => unreachable!(),
-    }
-}
-
 /// The kinds of the parameters.
 fn kinds(alloc: Allocator, params: &[Param]) -> Result<KindList, OutOfMemory>
     ensures { IfOk result (λ kinds. kinds ≡ map (λ p. p.kind) params.now) }
@@ -79,7 +68,7 @@ fn head(alloc: Allocator, function: &Function) -> Result<Head, OutOfMemory>
     let kinds = kinds(alloc, function.params.as_slice())?;
     let defaults = defaults(alloc, function.params.as_slice())?;
     Ok(Head {
-        name: text_of(&function.name),
+        name: Text::of_few(function.name.bytes()),
         public: function.public,
         kinds,
         defaults,
@@ -127,7 +116,7 @@ fn global_head(global: &GlobalAt) -> Global
     ensures { result ≡ global_head_of (global_of global.now) }
 {
     Global {
-        name: text_of(&global.name),
+        name: Text::of_few(global.name.bytes()),
         cell: global.cell as u32,
     }
 }

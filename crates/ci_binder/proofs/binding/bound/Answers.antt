@@ -19,7 +19,7 @@ bound_functions-requires c = functions_known (declared_of c.in_ok-names.names) (
 pub returns-in-Some-clause-err : goal.returns-in-Some-clause-err
 returns-in-Some-clause-err c =
     let files = map items_of c.args.trees.now in
-    let all = found_all (declared_of c.in_ok-names.names) files c.bound_functions.new.found c.note_variables.new.found c.in_ok-names.ensures.declared c.in_ok-functions.ensures.faults c.in_ok-note_variables.ensures in
+    let all = found_all (declared_of c.in_ok-names.names) files c.bound_functions.new.found c.note_variables.new.found c.in_ok-names.ensures.declared c.in_ok-functions.ensures.faults c.note_variables.ensures in
     refused files c.note_variables.new.found c.in-Some.field-0 all c.in-Some.is
 
 pub made-requires-clause-short : goal.made-requires-clause-short
@@ -32,7 +32,7 @@ made-requires-clause-whole c =
     let files = map items_of c.args.trees.now in
     let d = declared_of c.in_ok-names.names in
     let fs = c.in_ok-functions.functions in
-    let all = found_all d files c.bound_functions.new.found c.note_variables.new.found c.in_ok-names.ensures.declared c.in_ok-functions.ensures.faults c.in_ok-note_variables.ensures in
+    let all = found_all d files c.bound_functions.new.found c.note_variables.new.found c.in_ok-names.ensures.declared c.in_ok-functions.ensures.faults c.note_variables.ensures in
     let variables = c.variables.ensures ∙ ap (λ (d : Declared). d.variables) c.in_ok-names.ensures.declared in
     let functions : map (function_of (heads_of fs)) fs ≡ map (bound_function d) d.functions = ap (λ heads. map (function_of heads) fs) (heads_same d fs c.in_ok-functions.ensures.value) ∙ c.in_ok-functions.ensures.value in
     bound_is_project files (project_with (map (function_of (heads_of fs)) fs) (map variable_at c.variables.result.now))
@@ -44,7 +44,7 @@ returns-clause-ok c =
     let files = map items_of c.args.trees.now in
     let d = declared_of c.in_ok-names.names in
     let fs = c.in_ok-functions.functions in
-    let all = found_all d files c.bound_functions.new.found c.note_variables.new.found c.in_ok-names.ensures.declared c.in_ok-functions.ensures.faults c.in_ok-note_variables.ensures in
+    let all = found_all d files c.bound_functions.new.found c.note_variables.new.found c.in_ok-names.ensures.declared c.in_ok-functions.ensures.faults c.note_variables.ensures in
     let variables = c.variables.ensures ∙ ap (λ (d : Declared). d.variables) c.in_ok-names.ensures.declared in
     let functions : map (function_of (heads_of fs)) fs ≡ map (bound_function d) d.functions = ap (λ heads. map (function_of heads) fs) (heads_same d fs c.in_ok-functions.ensures.value) ∙ c.in_ok-functions.ensures.value in
     let binds = accepted files c.note_variables.new.found d (map (function_of (heads_of fs)) fs) (map variable_at c.variables.result.now) all c.in-None.is c.in_ok-names.ensures.declared functions variables in

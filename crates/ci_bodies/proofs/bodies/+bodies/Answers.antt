@@ -1,4 +1,4 @@
-use Rattle.std.proofs.Common.{rules, ◌≡◌, ◌+◌, ◌++◌, [], drop, map, None, sym, ap, ◌∙◌, refl, option_map}
+use Rattle.std.proofs.Common.{rules, ◌≡◌, ◌+◌, ◌++◌, drop, map, None, sym, ap, ◌∙◌, refl, option_map}
 use Rattle.std.proofs.lemmas.List.{drop_all}
 use Rattle.ci_base.specs.declared.value.Kind.TheVariants.{Int}
 use Rattle.ci_tree.specs.Tree as tree
@@ -6,18 +6,19 @@ use Rattle.ci_tree.specs.Bound as to
 use Rattle.ci_tree.specs.Seen.{expr_of, exprs_of, label_of, stmt_of, clause_of, block_of, clauses_of}
 use Rattle.ci_tree.specs.declared.tree.Stmt.{the_lemmas}
 use Rattle.ci_names.specs.Fault.{noted}
-use Rattle.ci_names.specs.Scopes.{meaning, with_locals, locals_in, locals_in_block, locals_in_clauses}
+use Rattle.ci_names.specs.Scopes.{with_locals, locals_in_block, locals_in_clauses, locals_in_other}
 use Rattle.ci_names.specs.Kinds.{kind_of}
 use Rattle.ci_names.specs.Expressions.{expr_faults}
-use Rattle.ci_names.specs.Statements.{target, part_faults, stmt_faults, labels_faults, clauses_faults, block_faults}
-use Rattle.ci_names.specs.Binding.{heads_in, scalar_of, bound_expr, bound_label, bound_block, bound_clauses}
+use Rattle.ci_names.specs.Statements.{target, part_faults, labels_faults, clauses_faults, block_faults, other_faults}
+use Rattle.ci_names.specs.Binding.{heads_in, bound_label, bound_block}
 use Rattle.ci_scopes.specs.Seen.{scope_of}
-use Rattle.ci_bodies.specs.Made.{expr_in, stmt_in, block_in, clauses_in}
+use Rattle.ci_bodies.specs.Made.{expr_in, stmt_in, block_in, clauses_in, other_in}
+use Rattle.ci_bodies.specs.Walk.{other_of}
 use Rattle.ci_bodies.proofs.BodySteps.{body_more, body_end, clauses_more, clauses_end}
 use Rattle.ci_bodies.proofs.Loops.{next}
 use Rattle.ci_bodies.proofs.Noted.{both_noted, three_noted}
 use Rattle.ci_bodies.proofs.Scopes.{with_more}
-use Rattle.ci_bodies.proofs.Statements.{added, behind}
+use Rattle.ci_bodies.proofs.Statements.{added, other_behind, last_behind}
 use Rattle.ci_bodies.proofs.bodies.+bodies.Goals as goal
 
 -- Bodies
@@ -104,182 +105,118 @@ statement-returns-in_ok-push-in-Return-clause-tree t c =
 
 -- IF
 
-pub statement-returns-in_ok-push-in-None-clause-tree : goal.statement-returns-in_ok-push-in-None-clause-tree
-statement-returns-in_ok-push-in-None-clause-tree t c =
+pub statement-returns-in_ok-push-in-If-clause-tree : goal.statement-returns-in_ok-push-in-If-clause-tree
+statement-returns-in_ok-push-in-If-clause-tree t c =
     let s = scope_of c.args.scope.now in
-    let at = c.in-If.at in
-    let test = expr_of c.in-If.test in
-    let body = block_of c.as_slice-in-If.result.now in
-    let given = tree.choose at test body tree.no_other in
+    let given = tree.choose c.in-If.at (expr_of c.in-If.test) (block_of c.as_slice-in-If.result.now) (other_of c.in-If.other) in
     let seen : stmt_of c.args.stmt.now ≡ given = search (rules, the_lemmas) in
-    added s (stmt_of c.args.stmt.now) given c.args.into.now c.push-in-None.new.items c.choose.result (to.choose at (bound_expr s test) (bound_block s body) to.no_other) seen c.in_ok-push-in-None.ensures
-    (c.choose.ensures (heads_in s.declared)
-    ∙ (λ i. to.choose at (expr_in s (c.in_ok-test-in-If-2.ensures i)) (block_in s c.in_ok-then-in-If.then) to.no_other)
-    ∙ (λ i. to.choose at (c.in_ok-test-in-If.ensures.tree i) (c.in_ok-then-in-If.ensures.tree i) to.no_other))
-    (λ rest. refl)
+    let one = c.in_ok-one-in-If.one in
+    added s (stmt_of c.args.stmt.now) given c.args.into.now c.push-in-If.new.items one (stmt_in s one) seen c.in_ok-push-in-If.ensures refl c.in_ok-one-in-If.ensures.tree
 
-pub statement-returns-in_ok-push-in-None-clause-found : goal.statement-returns-in_ok-push-in-None-clause-found
-statement-returns-in_ok-push-in-None-clause-found t c =
+pub choice-returns-clause-tree : goal.choice-returns-clause-tree
+choice-returns-clause-tree t c rest =
     let s = scope_of c.args.scope.now in
-    let test = expr_of c.in-If.test in
-    let body = block_of c.as_slice-in-If.result.now in
-    let seen : stmt_of c.args.stmt.now ≡ tree.choose c.in-If.at test body tree.no_other = search (rules, the_lemmas) in
-    three_noted c.args.found.now c.part.new.found c.body.new.found c.body.new.found (part_faults s Int test) (block_faults s body) [] c.in_ok-test-in-If.ensures.found c.in_ok-then-in-If.ensures.found refl
-    ∙ ap (λ x. noted c.args.found.now (stmt_faults s x)) (sym seen)
+    let at = c.args.at in
+    let inside = block_of c.args.inside.now in
+    let other = other_of c.args.other.now in
+    let is_other = other_behind s (scope_of c.body.new.scope) (locals_in_block inside) c.in_ok-other.other other c.in_ok-inside.ensures.scope c.in_ok-other.ensures.tree in
+    ap (λ x. to.then x rest) (sym (c.choose.ensures (heads_in s.declared)
+    ∙ (λ i. to.choose at (expr_in s (c.in_ok-test-2.ensures i)) (block_in s c.in_ok-inside.inside) (other_in s c.in_ok-other.other))
+    ∙ (λ i. to.choose at (c.in_ok-test.ensures.tree i) (c.in_ok-inside.ensures.tree i) (is_other i))))
 
-pub statement-returns-in_ok-push-in-Some-clause-tree : goal.statement-returns-in_ok-push-in-Some-clause-tree
-statement-returns-in_ok-push-in-Some-clause-tree t c =
+pub choice-returns-clause-found : goal.choice-returns-clause-found
+choice-returns-clause-found t c =
     let s = scope_of c.args.scope.now in
-    let at = c.in-If.at in
-    let test = expr_of c.in-If.test in
-    let body = block_of c.as_slice-in-If.result.now in
-    let last = block_of c.as_slice-in-Some.result.now in
-    let ls = locals_in_block body in
-    let made = c.in_ok-last-in-Some.last in
-    let given = tree.choose at test body (tree.other last) in
-    let seen : stmt_of c.args.stmt.now ≡ given = search (rules, the_lemmas) in
-    let is_last = behind s (scope_of c.body.new.scope) ls made last c.in_ok-then-in-If.ensures.scope c.in_ok-last-in-Some.ensures.tree in
-    added s (stmt_of c.args.stmt.now) given c.args.into.now c.push-in-Some.new.items c.choose-in-Some.result (to.choose at (bound_expr s test) (bound_block s body) (to.other (bound_block (with_locals s ls) last))) seen c.in_ok-push-in-Some.ensures
-    (c.choose-in-Some.ensures (heads_in s.declared)
-    ∙ (λ i. to.choose at (expr_in s (c.in_ok-test-in-If-2.ensures i)) (block_in s c.in_ok-then-in-If.then) (to.other (block_in s made)))
-    ∙ (λ i. to.choose at (c.in_ok-test-in-If.ensures.tree i) (c.in_ok-then-in-If.ensures.tree i) (to.other (is_last i))))
-    (λ rest. refl)
+    let inside = block_of c.args.inside.now in
+    let other = other_of c.args.other.now in
+    three_noted c.args.found.now c.part.new.found c.body.new.found c.otherwise.new.found (part_faults s Int (expr_of c.args.test.now)) (block_faults s inside) (other_faults (with_locals s (locals_in_block inside)) other)
+    c.in_ok-test.ensures.found c.in_ok-inside.ensures.found (c.in_ok-other.ensures.found ∙ ap (λ x. noted c.body.new.found (other_faults x other)) c.in_ok-inside.ensures.scope)
 
-pub statement-returns-in_ok-push-in-Some-clause-found : goal.statement-returns-in_ok-push-in-Some-clause-found
-statement-returns-in_ok-push-in-Some-clause-found t c =
+pub choice-returns-clause-scope : goal.choice-returns-clause-scope
+choice-returns-clause-scope t c =
     let s = scope_of c.args.scope.now in
-    let test = expr_of c.in-If.test in
-    let body = block_of c.as_slice-in-If.result.now in
-    let last = block_of c.as_slice-in-Some.result.now in
-    let seen : stmt_of c.args.stmt.now ≡ tree.choose c.in-If.at test body (tree.other last) = search (rules, the_lemmas) in
-    three_noted c.args.found.now c.part.new.found c.body.new.found c.body-in-Some.new.found (part_faults s Int test) (block_faults s body) (block_faults (with_locals s (locals_in_block body)) last)
-    c.in_ok-test-in-If.ensures.found c.in_ok-then-in-If.ensures.found (c.in_ok-last-in-Some.ensures.found ∙ ap (λ x. noted c.body.new.found (block_faults x last)) c.in_ok-then-in-If.ensures.scope)
-    ∙ ap (λ x. noted c.args.found.now (stmt_faults s x)) (sym seen)
-
-pub statement-returns-in_ok-push-in-Some-clause-scope : goal.statement-returns-in_ok-push-in-Some-clause-scope
-statement-returns-in_ok-push-in-Some-clause-scope t c =
-    let s = scope_of c.args.scope.now in
-    let test = expr_of c.in-If.test in
-    let body = block_of c.as_slice-in-If.result.now in
-    let last = block_of c.as_slice-in-Some.result.now in
-    let seen : stmt_of c.args.stmt.now ≡ tree.choose c.in-If.at test body (tree.other last) = search (rules, the_lemmas) in
-    c.in_ok-last-in-Some.ensures.scope
-    ∙ ap (λ x. with_locals x (locals_in_block last)) c.in_ok-then-in-If.ensures.scope
-    ∙ with_more s (locals_in_block body) (locals_in_block last)
-    ∙ ap (λ x. with_locals s (locals_in x)) (sym seen)
+    let inside = locals_in_block (block_of c.args.inside.now) in
+    let other = locals_in_other (other_of c.args.other.now) in
+    c.in_ok-other.ensures.scope ∙ ap (λ x. with_locals x other) c.in_ok-inside.ensures.scope ∙ with_more s inside other
 
 -- WHILE and FOR
 
 pub statement-returns-in_ok-push-in-While-clause-tree : goal.statement-returns-in_ok-push-in-While-clause-tree
 statement-returns-in_ok-push-in-While-clause-tree t c =
     let s = scope_of c.args.scope.now in
-    let at = c.in-While.at in
-    let test = expr_of c.in-While.test in
-    let body = block_of c.as_slice-in-While.result.now in
-    let given = tree.while at test body in
+    let given = tree.while c.in-While.at (expr_of c.in-While.test) (block_of c.as_slice-in-While.result.now) in
     let seen : stmt_of c.args.stmt.now ≡ given = search (rules, the_lemmas) in
-    added s (stmt_of c.args.stmt.now) given c.args.into.now c.push-in-While.new.items c.repeat.result (to.while at (bound_expr s test) (bound_block s body)) seen c.in_ok-push-in-While.ensures
-    (c.repeat.ensures (heads_in s.declared) ∙ (λ i. to.while at (c.in_ok-test-in-While.ensures.tree i) (c.in_ok-again-in-While.ensures.tree i)))
-    (λ rest. refl)
+    let one = c.in_ok-one-in-While.one in
+    added s (stmt_of c.args.stmt.now) given c.args.into.now c.push-in-While.new.items one (stmt_in s one) seen c.in_ok-push-in-While.ensures refl c.in_ok-one-in-While.ensures.tree
 
-pub statement-returns-in_ok-push-in-While-clause-found : goal.statement-returns-in_ok-push-in-While-clause-found
-statement-returns-in_ok-push-in-While-clause-found t c =
+pub repetition-returns-clause-tree : goal.repetition-returns-clause-tree
+repetition-returns-clause-tree t c rest =
     let s = scope_of c.args.scope.now in
-    let test = expr_of c.in-While.test in
-    let body = block_of c.as_slice-in-While.result.now in
-    let seen : stmt_of c.args.stmt.now ≡ tree.while c.in-While.at test body = search (rules, the_lemmas) in
-    both_noted c.args.found.now c.part-in-While.new.found c.body-in-While.new.found (part_faults s Int test) (block_faults s body) c.in_ok-test-in-While.ensures.found c.in_ok-again-in-While.ensures.found
-    ∙ ap (λ x. noted c.args.found.now (stmt_faults s x)) (sym seen)
+    ap (λ x. to.then x rest) (sym (c.repeat.ensures (heads_in s.declared) ∙ (λ i. to.while c.args.at (c.in_ok-test.ensures.tree i) (c.in_ok-inside.ensures.tree i))))
+
+pub repetition-returns-clause-found : goal.repetition-returns-clause-found
+repetition-returns-clause-found t c =
+    let s = scope_of c.args.scope.now in
+    both_noted c.args.found.now c.part.new.found c.body.new.found (part_faults s Int (expr_of c.args.test.now)) (block_faults s (block_of c.args.inside.now)) c.in_ok-test.ensures.found c.in_ok-inside.ensures.found
 
 pub statement-returns-in_ok-push-in-For-clause-tree : goal.statement-returns-in_ok-push-in-For-clause-tree
 statement-returns-in_ok-push-in-For-clause-tree t c =
     let s = scope_of c.args.scope.now in
     let f = c.in-For in
-    let body = block_of c.as_slice-in-For.result.now in
-    let given = tree.for f.at f.name_at f.name (expr_of f.from) (expr_of f.to) body in
+    let given = tree.for f.at f.name_at f.name (expr_of f.from) (expr_of f.to) (block_of c.as_slice-in-For.result.now) in
     let seen : stmt_of c.args.stmt.now ≡ given = search (rules, the_lemmas) in
-    let head = c.in_ok-counter-in-For.ensures in
-    added s (stmt_of c.args.stmt.now) given c.args.into.now c.push-in-For.new.items c.count.result (to.for f.at (scalar_of (meaning s f.name)) (bound_expr s (expr_of f.from)) (bound_expr s (expr_of f.to)) (bound_block s body)) seen c.in_ok-push-in-For.ensures
-    (c.count.ensures (heads_in s.declared) ∙ (λ i. to.for f.at (head.counter i) (head.from i) (head.to i) (c.in_ok-again-in-For.ensures.tree i)))
-    (λ rest. refl)
+    let one = c.in_ok-one-in-For.one in
+    added s (stmt_of c.args.stmt.now) given c.args.into.now c.push-in-For.new.items one (stmt_in s one) seen c.in_ok-push-in-For.ensures refl c.in_ok-one-in-For.ensures.tree
 
-pub statement-returns-in_ok-push-in-For-clause-found : goal.statement-returns-in_ok-push-in-For-clause-found
-statement-returns-in_ok-push-in-For-clause-found t c =
+pub iteration-returns-clause-tree : goal.iteration-returns-clause-tree
+iteration-returns-clause-tree t c rest =
     let s = scope_of c.args.scope.now in
-    let f = c.in-For in
+    let head = c.in_ok-counter.ensures in
+    ap (λ x. to.then x rest) (sym (c.count.ensures (heads_in s.declared) ∙ (λ i. to.for c.args.at (head.counter i) (head.from i) (head.to i) (c.in_ok-inside.ensures.tree i))))
+
+pub iteration-returns-clause-found : goal.iteration-returns-clause-found
+iteration-returns-clause-found t c =
+    let s = scope_of c.args.scope.now in
+    let f = c.args.counting in
     let faults = part_faults s Int in
-    let body = block_of c.as_slice-in-For.result.now in
-    let seen : stmt_of c.args.stmt.now ≡ tree.for f.at f.name_at f.name (expr_of f.from) (expr_of f.to) body = search (rules, the_lemmas) in
-    both_noted c.args.found.now c.head.new.found c.body-in-For.new.found (faults (target f.name_at f.name None) ++ faults (expr_of f.from) ++ faults (expr_of f.to)) (block_faults s body)
-    c.in_ok-counter-in-For.ensures.found c.in_ok-again-in-For.ensures.found
-    ∙ ap (λ x. noted c.args.found.now (stmt_faults s x)) (sym seen)
+    both_noted c.args.found.now c.head.new.found c.body.new.found (faults (target f.at f.name.now None) ++ faults (expr_of f.from.now) ++ faults (expr_of f.to.now)) (block_faults s (block_of c.args.inside.now))
+    c.in_ok-counter.ensures.found c.in_ok-inside.ensures.found
 
 -- SELECT
 
-pub statement-returns-in_ok-push-in-None-other-clause-tree : goal.statement-returns-in_ok-push-in-None-other-clause-tree
-statement-returns-in_ok-push-in-None-other-clause-tree t c =
+pub statement-returns-in_ok-push-in-Select-clause-tree : goal.statement-returns-in_ok-push-in-Select-clause-tree
+statement-returns-in_ok-push-in-Select-clause-tree t c =
     let s = scope_of c.args.scope.now in
-    let at = c.in-Select.at in
-    let subject = expr_of c.in-Select.subject in
-    let cases = clauses_of c.as_slice-in-Select.result.now in
-    let given = tree.select at subject cases tree.no_other in
+    let given = tree.select c.in-Select.at (expr_of c.in-Select.subject) (clauses_of c.as_slice-in-Select.result.now) (other_of c.in-Select.other) in
     let seen : stmt_of c.args.stmt.now ≡ given = search (rules, the_lemmas) in
-    added s (stmt_of c.args.stmt.now) given c.args.into.now c.push-in-None-other.new.items c.select.result (to.select at (bound_expr s subject) (bound_clauses s cases) to.done) seen c.in_ok-push-in-None-other.ensures
-    (c.select.ensures (heads_in s.declared)
-    ∙ (λ i. to.select at (expr_in s (c.in_ok-subject-in-Select-2.ensures i)) (clauses_in s c.in_ok-cases-in-Select.cases) (block_in s (c.new-last.ensures i)))
-    ∙ (λ i. to.select at (c.in_ok-subject-in-Select.ensures.tree i) (c.in_ok-cases-in-Select.ensures.tree i) to.done))
-    (λ rest. refl)
+    let one = c.in_ok-one-in-Select.one in
+    added s (stmt_of c.args.stmt.now) given c.args.into.now c.push-in-Select.new.items one (stmt_in s one) seen c.in_ok-push-in-Select.ensures refl c.in_ok-one-in-Select.ensures.tree
 
-pub statement-returns-in_ok-push-in-None-other-clause-found : goal.statement-returns-in_ok-push-in-None-other-clause-found
-statement-returns-in_ok-push-in-None-other-clause-found t c =
+pub selection-returns-clause-tree : goal.selection-returns-clause-tree
+selection-returns-clause-tree t c rest =
     let s = scope_of c.args.scope.now in
-    let subject = expr_of c.in-Select.subject in
-    let cases = clauses_of c.as_slice-in-Select.result.now in
-    let seen : stmt_of c.args.stmt.now ≡ tree.select c.in-Select.at subject cases tree.no_other = search (rules, the_lemmas) in
-    three_noted c.args.found.now c.expression.new.found c.clauses.new.found c.clauses.new.found (expr_faults s subject) (clauses_faults s (kind_of s subject) cases) []
-    c.in_ok-subject-in-Select.ensures.found
-    (c.in_ok-cases-in-Select.ensures.found ∙ ap (λ k. noted c.expression.new.found (clauses_faults s k cases)) c.in_ok-subject-in-Select.ensures.kind) refl
-    ∙ ap (λ x. noted c.args.found.now (stmt_faults s x)) (sym seen)
+    let at = c.args.at in
+    let cases = clauses_of c.args.cases.now in
+    let other = other_of c.args.other.now in
+    let is_last = last_behind s (scope_of c.clauses.new.scope) (locals_in_clauses cases) c.in_ok-last.last other c.in_ok-cases.ensures.scope c.in_ok-last.ensures.tree in
+    ap (λ x. to.then x rest) (sym (c.select.ensures (heads_in s.declared)
+    ∙ (λ i. to.select at (expr_in s (c.in_ok-subject-2.ensures i)) (clauses_in s c.in_ok-cases.cases) (block_in s c.in_ok-last.last))
+    ∙ (λ i. to.select at (c.in_ok-subject.ensures.tree i) (c.in_ok-cases.ensures.tree i) (is_last i))))
 
-pub statement-returns-in_ok-push-in-Some-other-clause-tree : goal.statement-returns-in_ok-push-in-Some-other-clause-tree
-statement-returns-in_ok-push-in-Some-other-clause-tree t c =
+pub selection-returns-clause-found : goal.selection-returns-clause-found
+selection-returns-clause-found t c =
     let s = scope_of c.args.scope.now in
-    let at = c.in-Select.at in
-    let subject = expr_of c.in-Select.subject in
-    let cases = clauses_of c.as_slice-in-Select.result.now in
-    let last = block_of c.as_slice-in-Some-other.result.now in
-    let ls = locals_in_clauses cases in
-    let made = c.in_ok-last-in-Some-other.last in
-    let given = tree.select at subject cases (tree.other last) in
-    let seen : stmt_of c.args.stmt.now ≡ given = search (rules, the_lemmas) in
-    let is_last = behind s (scope_of c.clauses.new.scope) ls made last c.in_ok-cases-in-Select.ensures.scope c.in_ok-last-in-Some-other.ensures.tree in
-    added s (stmt_of c.args.stmt.now) given c.args.into.now c.push-in-Some-other.new.items c.select-in-Some-other.result (to.select at (bound_expr s subject) (bound_clauses s cases) (bound_block (with_locals s ls) last)) seen c.in_ok-push-in-Some-other.ensures
-    (c.select-in-Some-other.ensures (heads_in s.declared)
-    ∙ (λ i. to.select at (expr_in s (c.in_ok-subject-in-Select-2.ensures i)) (clauses_in s c.in_ok-cases-in-Select.cases) (block_in s made))
-    ∙ (λ i. to.select at (c.in_ok-subject-in-Select.ensures.tree i) (c.in_ok-cases-in-Select.ensures.tree i) (is_last i)))
-    (λ rest. refl)
+    let subject = expr_of c.args.subject.now in
+    let cases = clauses_of c.args.cases.now in
+    let other = other_of c.args.other.now in
+    three_noted c.args.found.now c.expression.new.found c.clauses.new.found c.else_part.new.found (expr_faults s subject) (clauses_faults s (kind_of s subject) cases) (other_faults (with_locals s (locals_in_clauses cases)) other)
+    c.in_ok-subject.ensures.found
+    (c.in_ok-cases.ensures.found ∙ ap (λ k. noted c.expression.new.found (clauses_faults s k cases)) c.in_ok-subject.ensures.kind)
+    (c.in_ok-last.ensures.found ∙ ap (λ x. noted c.clauses.new.found (other_faults x other)) c.in_ok-cases.ensures.scope)
 
-pub statement-returns-in_ok-push-in-Some-other-clause-found : goal.statement-returns-in_ok-push-in-Some-other-clause-found
-statement-returns-in_ok-push-in-Some-other-clause-found t c =
+pub selection-returns-clause-scope : goal.selection-returns-clause-scope
+selection-returns-clause-scope t c =
     let s = scope_of c.args.scope.now in
-    let subject = expr_of c.in-Select.subject in
-    let cases = clauses_of c.as_slice-in-Select.result.now in
-    let last = block_of c.as_slice-in-Some-other.result.now in
-    let seen : stmt_of c.args.stmt.now ≡ tree.select c.in-Select.at subject cases (tree.other last) = search (rules, the_lemmas) in
-    three_noted c.args.found.now c.expression.new.found c.clauses.new.found c.body-in-Some-other.new.found (expr_faults s subject) (clauses_faults s (kind_of s subject) cases) (block_faults (with_locals s (locals_in_clauses cases)) last)
-    c.in_ok-subject-in-Select.ensures.found
-    (c.in_ok-cases-in-Select.ensures.found ∙ ap (λ k. noted c.expression.new.found (clauses_faults s k cases)) c.in_ok-subject-in-Select.ensures.kind)
-    (c.in_ok-last-in-Some-other.ensures.found ∙ ap (λ x. noted c.clauses.new.found (block_faults x last)) c.in_ok-cases-in-Select.ensures.scope)
-    ∙ ap (λ x. noted c.args.found.now (stmt_faults s x)) (sym seen)
-
-pub statement-returns-in_ok-push-in-Some-other-clause-scope : goal.statement-returns-in_ok-push-in-Some-other-clause-scope
-statement-returns-in_ok-push-in-Some-other-clause-scope t c =
-    let s = scope_of c.args.scope.now in
-    let subject = expr_of c.in-Select.subject in
-    let cases = clauses_of c.as_slice-in-Select.result.now in
-    let last = block_of c.as_slice-in-Some-other.result.now in
-    let seen : stmt_of c.args.stmt.now ≡ tree.select c.in-Select.at subject cases (tree.other last) = search (rules, the_lemmas) in
-    c.in_ok-last-in-Some-other.ensures.scope
-    ∙ ap (λ x. with_locals x (locals_in_block last)) c.in_ok-cases-in-Select.ensures.scope
-    ∙ with_more s (locals_in_clauses cases) (locals_in_block last)
-    ∙ ap (λ x. with_locals s (locals_in x)) (sym seen)
+    let cases = locals_in_clauses (clauses_of c.args.cases.now) in
+    let other = locals_in_other (other_of c.args.other.now) in
+    c.in_ok-last.ensures.scope ∙ ap (λ x. with_locals x other) c.in_ok-cases.ensures.scope ∙ with_more s cases other

@@ -5,4 +5,4 @@ use Rattle.ci_tree.proofs.layouts.head.Goals as goal
 pub returns : goal.returns
 returns c takes =
     let f = c.args.function.now in
-    head_same takes f c.text_of.result c.in_ok-kinds.kinds c.in_ok-defaults.defaults c.text_of.ensures (search rules) (search rules)
+    head_same takes f c.of_few.result c.in_ok-kinds.kinds c.in_ok-defaults.defaults (search rules) (search rules) (search rules)

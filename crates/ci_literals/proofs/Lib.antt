@@ -1,0 +1,4 @@
+pub mod Cuts
+pub mod Escaping
+pub mod Naturals
+pub mod Spelled
