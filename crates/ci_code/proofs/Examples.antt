@@ -1,6 +1,7 @@
 -- Examples: what each instruction does, both ways of a run error, and calls.
-use Rattle.std.proofs.Common.{◌≡◌, ℕ, Bool, true, false, List, [], ◌∷◌, Some, None, refl}
+use Rattle.std.proofs.Common.{◌≡◌, ℕ, Bool, true, false, List, [], ◌∷◌, ◌++◌, replicate, Some, None, refl}
 use Rattle.std.specs.Prelude.{ℤ, pos, negsuc, Option}
+use Rattle.std.specs.Fmt.{digits}
 use Rattle.ci_base.specs.declared.function.PrivateName.TheVariants as private
 use Rattle.ci_base.specs.declared.function.SharedName.TheVariants as shared
 use Rattle.ci_base.specs.declared.relation.Relation.TheVariants.{Less, AtLeast}
@@ -12,6 +13,7 @@ use Rattle.ci_base.specs.declared.value.Kind.TheVariants as kinds
 use Rattle.ci_base.specs.declared.value.Value.{Value}
 use Rattle.ci_base.specs.declared.value.Value.TheVariants.{Int, Str}
 use Rattle.ci_base.specs.Arithmetic.{sum, difference, product, negation, conjunction, disjunction, inversion, common_bits, joint_bits, differing_bits}
+use Rattle.ci_base.specs.Letters.{is_digit}
 use Rattle.ci_base.specs.Steps.{tick, quiet, asks, stuck}
 use Rattle.ci_code.specs.declared.instruction.Instruction.{Instruction}
 use Rattle.ci_code.specs.declared.instruction.Instruction.TheVariants as does
@@ -117,6 +119,18 @@ divisions_fail = ((refl, refl), (refl, refl))
 texts : Makes does.Cat (Str (98 ∷ []) ∷ Str (97 ∷ []) ∷ []) (Str (97 ∷ 98 ∷ []) ∷ []) × Sticks does.Cat (Int (pos 1) ∷ Str [] ∷ [])
 texts = (refl, refl)
 
+-- a sum of 255 bytes is a text, and one of 256 isn't
+long_texts : Makes does.Cat (Str (replicate 55 98) ∷ Str (replicate 200 97) ∷ []) (Str (replicate 200 97 ++ replicate 55 98) ∷ [])
+long_texts = refl
+
+long_texts_fail : Fails does.Cat (Str (replicate 56 98) ∷ Str (replicate 200 97) ∷ []) 9 (Str [] ∷ [])
+long_texts_fail = (refl, refl)
+
+-- spaces before a number, which is written whole where it is longer
+formats : Makes (does.Form 3) (Int (pos 7) ∷ []) (Str (32 ∷ 32 ∷ 55 ∷ []) ∷ []) × Makes (does.Form 2) (Int (negsuc 11) ∷ []) (Str (45 ∷ 49 ∷ 50 ∷ []) ∷ []) × Sticks (does.Form 1) (Str [] ∷ [])
+unfolding digits
+formats = (refl, refl, refl)
+
 comparisons : Makes (does.CmpInt Less) (Int (pos 3) ∷ Int (pos 2) ∷ []) (Int (pos 1) ∷ []) × Makes (does.CmpStr AtLeast) (Str (98 ∷ []) ∷ Str (97 ∷ []) ∷ []) (Int (pos 0) ∷ [])
 comparisons = (refl, refl)
 
@@ -147,6 +161,11 @@ asked = (refl, refl, refl)
 -- the last error is taken, and an assertion fails
 private_calls : (next (code_of None 3 (does.Private private.IsError)) (standing false [] []) ≡ quiet (on (Int (pos 4) ∷ []) (record (standing false [] []) { error = 0 }))) × Fails (does.Private private.Assert) (Int (pos 0) ∷ []) 14 (Int (pos 0) ∷ [])
 private_calls = (refl, (refl, refl))
+
+-- a filled text that is too long, and a text that spells no INT
+private_calls_fail : Fails (does.Private private.StrFill) (Int (pos 256) ∷ Str (97 ∷ []) ∷ []) 9 (Str [] ∷ []) × Fails (does.Private private.StrToInt) (Str (97 ∷ []) ∷ []) 13 (Int (pos 0) ∷ [])
+unfolding is_digit
+private_calls_fail = ((refl, refl), (refl, refl))
 
 goes_on_from_now : next (code_of None 3 (does.Private private.ErrSet)) (standing false [] (Int (pos 1) ∷ [])) ≡ quiet (on (Int (pos 0) ∷ []) (record (standing false [] []) { goes_on = true }))
 goes_on_from_now = refl

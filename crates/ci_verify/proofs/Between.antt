@@ -34,7 +34,7 @@ use Rattle.ci_verify.specs.Rules.{TickAt, Ahead, JumpsAhead, NoneBroken}
 use Rattle.ci_verify.specs.Ways.{way_of}
 use Rattle.ci_verify.proofs.Sound.{there, verified_is_sound}
 
-abbrev AtTick : RawParts → Machine → Type 0
+abbrev pub AtTick : RawParts → Machine → Type 0
 AtTick code m = instruction_at code m ≡ Some does.Tick
 
 -- behind the move fewer than n places are left, or a tick is next; where it is another move nothing is said
@@ -255,7 +255,7 @@ next_light code is none m what e =
     (begins code is none)
     (omega (arith, inside, ap (λ o. left_in o m.top.place) found))
 
-quiet_light : (code : RawParts) → IsCode code → NoneBroken code → (m d : Machine) → next code m ≡ quiet d → (instructions_left code d < instructions_left code m) ⊎ AtTick code d
+pub quiet_light : (code : RawParts) → IsCode code → NoneBroken code → (m d : Machine) → next code m ≡ quiet d → (instructions_left code d < instructions_left code m) ⊎ AtTick code d
 quiet_light code is none m d e = by_instruction (instruction_at code m) refl e
   where
     by_instruction : (o : Option Instruction) → instruction_at code m ≡ o → act_on code o m ≡ quiet d → (instructions_left code d < instructions_left code m) ⊎ AtTick code d

@@ -92,7 +92,7 @@ both true true e = (refl, refl)
 both true false e = absurd (cc e)
 both false b e = absurd (cc e)
 
-all_there : {A : Type 0} → (p : A → Bool) (xs : List A) (i : ℕ) (x : A) → list_all p xs ≡ true → slice_get xs i ≡ Some x → p x ≡ true
+pub all_there : {A : Type 0} → (p : A → Bool) (xs : List A) (i : ℕ) (x : A) → list_all p xs ≡ true → slice_get xs i ≡ Some x → p x ≡ true
 all_there p [] i x e h = absurd (cc h)
 all_there p (y ∷ xs) zero x e h = let same : y ≡ x = cc h in subst (λ z. p z ≡ true) same ((both (p y) (list_all p xs) e).0)
 all_there p (y ∷ xs) (suc i) x e h = all_there p xs i x ((both (p y) (list_all p xs) e).1) h
@@ -132,7 +132,7 @@ element_kind cells array j cell e h there_it =
     not_empty n h = by_test n (n == 0) h refl
 
 -- where the request of an element reads, there is such a cell
-index_kind : (cells : List CellHead) (array : Cells) (i : ℤ) (c : ℕ) (cell : CellHead) → has_cells cells array ≡ true → cell_in array i ≡ Some c → slice_get cells c ≡ Some cell → cell.kind ≡ array.kind
+pub index_kind : (cells : List CellHead) (array : Cells) (i : ℤ) (c : ℕ) (cell : CellHead) → has_cells cells array ≡ true → cell_in array i ≡ Some c → slice_get cells c ≡ Some cell → cell.kind ≡ array.kind
 index_kind cells array (negsuc j) c cell e h there_it = absurd (cc h)
 index_kind cells array (pos j) c cell e h there_it = by_test (nat_lt j array.length) refl h
   where

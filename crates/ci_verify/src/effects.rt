@@ -3,7 +3,7 @@ ghost use Rattle.std.specs.Prelude.{◌≡◌, [], ◌∷◌, slice_get};
 ghost use Rattle.ci_code.specs.Moves.{parameters_of, value_kind};
 ghost use Rattle.ci_verify.specs.Kinds.{listed, cell_kind, array_kind, callee_kind, takes_of, leaves_of, stays_of};
 
-use crate::kinds::{pair, private_gives, private_takes, shared_takes, single};
+use crate::kinds::{pair, single};
 use crate::shapes::{below, second_kind, top_kind};
 use ci_base::{Kind, KindList};
 use ci_code::{Instruction, RawFunction, RawParts};
@@ -113,8 +113,8 @@ pub fn takes<'a>(
         Instruction::Dup | Instruction::Drop => single(top_kind(before)),
         Instruction::Swap => pair(second_kind(before), top_kind(before)),
         Instruction::Call(callee) => parameters(code, callee),
-        Instruction::Private(name) => private_takes(name),
-        Instruction::Ask(name) => shared_takes(name),
+        Instruction::Private(name) => name.takes(),
+        Instruction::Ask(name) => name.takes(),
         Instruction::Return => single(value_kind(function)),
         _ => &[],
     }
@@ -161,7 +161,7 @@ pub fn leaves(
         Instruction::Dup => pair(top_kind(before), top_kind(before)),
         Instruction::Swap => pair(top_kind(before), second_kind(before)),
         Instruction::Call(callee) => callee_kind(code, callee),
-        Instruction::Private(name) => single(private_gives(name)),
+        Instruction::Private(name) => single(name.gives()),
         _ => &[Kind::Int],
     }
 }

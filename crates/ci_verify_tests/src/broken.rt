@@ -1,0 +1,465 @@
+//! Code that breaks a rule at a place of its first function, and what is told of it.
+use crate::plans::{ABSENT, EMPTY, INT, INT_INT, STR, called, told, with_two_locals};
+use ci_code::Instruction;
+use std::test::Fail;
+
+/// What is wrong, the room, the steps, the rule that is broken, and its place. The function has two locals, so there is room
+/// for four operands where nothing else is said.
+type Row = (&'static str, u32, &'static [(u32, Instruction)], u8, u32);
+
+static ROWS: [Row; 42] = [
+    ("shape", 6, &[(ABSENT, Instruction::Tick)], 1, 0),
+    (
+        "text, first place",
+        6,
+        &[(EMPTY, Instruction::PushStr(2))],
+        1,
+        0,
+    ),
+    (
+        "text",
+        6,
+        &[
+            (EMPTY, Instruction::Tick),
+            (EMPTY, Instruction::PushStr(2)),
+            (STR, Instruction::Drop),
+            (EMPTY, Instruction::Jump(0)),
+        ],
+        1,
+        1,
+    ),
+    (
+        "local read",
+        6,
+        &[
+            (EMPTY, Instruction::Tick),
+            (EMPTY, Instruction::Load(2)),
+            (INT, Instruction::Drop),
+            (EMPTY, Instruction::Jump(0)),
+        ],
+        1,
+        1,
+    ),
+    (
+        "local written",
+        6,
+        &[
+            (EMPTY, Instruction::Tick),
+            (EMPTY, Instruction::PushInt(0)),
+            (INT, Instruction::Store(2)),
+            (EMPTY, Instruction::Jump(0)),
+        ],
+        1,
+        2,
+    ),
+    (
+        "cell read",
+        6,
+        &[
+            (EMPTY, Instruction::Tick),
+            (EMPTY, Instruction::ReadCell(4)),
+            (INT, Instruction::Drop),
+            (EMPTY, Instruction::Jump(0)),
+        ],
+        1,
+        1,
+    ),
+    (
+        "cell written",
+        6,
+        &[
+            (EMPTY, Instruction::Tick),
+            (EMPTY, Instruction::PushInt(0)),
+            (INT, Instruction::WriteCell(4)),
+            (INT, Instruction::Drop),
+            (EMPTY, Instruction::Jump(0)),
+        ],
+        1,
+        2,
+    ),
+    (
+        "array read",
+        6,
+        &[
+            (EMPTY, Instruction::Tick),
+            (EMPTY, Instruction::PushInt(0)),
+            (INT, Instruction::ReadAt(1)),
+            (INT, Instruction::Drop),
+            (EMPTY, Instruction::Jump(0)),
+        ],
+        1,
+        2,
+    ),
+    (
+        "array written",
+        6,
+        &[
+            (EMPTY, Instruction::Tick),
+            (EMPTY, Instruction::PushInt(0)),
+            (INT, Instruction::Dup),
+            (INT_INT, Instruction::WriteAt(1)),
+            (INT, Instruction::Drop),
+            (EMPTY, Instruction::Jump(0)),
+        ],
+        1,
+        3,
+    ),
+    (
+        "function",
+        6,
+        &[
+            (EMPTY, Instruction::Tick),
+            (EMPTY, Instruction::PushInt(0)),
+            (INT, Instruction::Call(2)),
+            (STR, Instruction::Drop),
+            (EMPTY, Instruction::Jump(0)),
+        ],
+        1,
+        2,
+    ),
+    (
+        "target",
+        6,
+        &[(EMPTY, Instruction::Tick), (EMPTY, Instruction::Jump(2))],
+        1,
+        1,
+    ),
+    (
+        "target of a branch",
+        6,
+        &[
+            (EMPTY, Instruction::Tick),
+            (EMPTY, Instruction::PushInt(0)),
+            (INT, Instruction::JumpIfZero(4)),
+            (EMPTY, Instruction::Jump(0)),
+        ],
+        1,
+        2,
+    ),
+    (
+        "format of 0",
+        6,
+        &[
+            (EMPTY, Instruction::Tick),
+            (EMPTY, Instruction::PushInt(0)),
+            (INT, Instruction::Form(0)),
+            (STR, Instruction::Drop),
+            (EMPTY, Instruction::Jump(0)),
+        ],
+        1,
+        2,
+    ),
+    (
+        "format of 256",
+        6,
+        &[
+            (EMPTY, Instruction::Tick),
+            (EMPTY, Instruction::PushInt(0)),
+            (INT, Instruction::Form(256)),
+            (STR, Instruction::Drop),
+            (EMPTY, Instruction::Jump(0)),
+        ],
+        1,
+        2,
+    ),
+    ("no instruction", 6, &[], 2, 0),
+    (
+        "no tick",
+        6,
+        &[
+            (EMPTY, Instruction::PushInt(0)),
+            (INT, Instruction::Drop),
+            (EMPTY, Instruction::Jump(0)),
+        ],
+        2,
+        0,
+    ),
+    (
+        "operand at the start",
+        6,
+        &[
+            (INT, Instruction::Tick),
+            (INT, Instruction::Drop),
+            (EMPTY, Instruction::Jump(0)),
+        ],
+        2,
+        0,
+    ),
+    (
+        "nothing to drop",
+        6,
+        &[
+            (EMPTY, Instruction::Tick),
+            (EMPTY, Instruction::Drop),
+            (EMPTY, Instruction::Jump(0)),
+        ],
+        3,
+        1,
+    ),
+    (
+        "nothing to return, later",
+        6,
+        &[
+            (EMPTY, Instruction::Tick),
+            (EMPTY, Instruction::PushInt(0)),
+            (INT, Instruction::Drop),
+            (EMPTY, Instruction::Return),
+        ],
+        3,
+        3,
+    ),
+    (
+        "other shape behind",
+        6,
+        &[
+            (EMPTY, Instruction::Tick),
+            (INT, Instruction::Drop),
+            (EMPTY, Instruction::Jump(0)),
+        ],
+        4,
+        0,
+    ),
+    (
+        "absent shape behind",
+        6,
+        &[
+            (EMPTY, Instruction::Tick),
+            (ABSENT, Instruction::Drop),
+            (EMPTY, Instruction::Jump(0)),
+        ],
+        4,
+        0,
+    ),
+    ("nothing behind", 6, &[(EMPTY, Instruction::Tick)], 4, 0),
+    (
+        "other kind behind",
+        6,
+        &[
+            (EMPTY, Instruction::Tick),
+            (EMPTY, Instruction::PushInt(0)),
+            (STR, Instruction::Drop),
+            (EMPTY, Instruction::Jump(0)),
+        ],
+        4,
+        1,
+    ),
+    (
+        "nothing behind, later",
+        6,
+        &[
+            (EMPTY, Instruction::Tick),
+            (EMPTY, Instruction::PushInt(0)),
+            (INT, Instruction::Drop),
+        ],
+        4,
+        2,
+    ),
+    (
+        "other shape at the target",
+        6,
+        &[
+            (EMPTY, Instruction::Tick),
+            (EMPTY, Instruction::PushInt(0)),
+            (INT, Instruction::Jump(0)),
+        ],
+        4,
+        2,
+    ),
+    (
+        "other shape behind a branch",
+        6,
+        &[
+            (EMPTY, Instruction::Tick),
+            (EMPTY, Instruction::PushInt(0)),
+            (INT, Instruction::JumpIfZero(0)),
+            (INT, Instruction::Drop),
+            (EMPTY, Instruction::Jump(0)),
+        ],
+        4,
+        2,
+    ),
+    (
+        "other shape at a target of a branch",
+        6,
+        &[
+            (EMPTY, Instruction::Tick),
+            (EMPTY, Instruction::PushInt(0)),
+            (INT, Instruction::Dup),
+            (INT_INT, Instruction::JumpIfZero(0)),
+            (INT, Instruction::Drop),
+            (EMPTY, Instruction::Jump(0)),
+        ],
+        4,
+        3,
+    ),
+    (
+        "no room",
+        0,
+        &[(EMPTY, Instruction::Tick), (EMPTY, Instruction::Jump(0))],
+        5,
+        0,
+    ),
+    (
+        "no room for the locals",
+        1,
+        &[(EMPTY, Instruction::Tick), (EMPTY, Instruction::Jump(0))],
+        5,
+        0,
+    ),
+    (
+        "too much room",
+        4097,
+        &[(EMPTY, Instruction::Tick), (EMPTY, Instruction::Jump(0))],
+        5,
+        0,
+    ),
+    (
+        "no room for an operand",
+        2,
+        &[
+            (EMPTY, Instruction::Tick),
+            (EMPTY, Instruction::PushInt(0)),
+            (INT, Instruction::Drop),
+            (EMPTY, Instruction::Jump(0)),
+        ],
+        5,
+        1,
+    ),
+    (
+        "no room for a second operand",
+        3,
+        &[
+            (EMPTY, Instruction::Tick),
+            (EMPTY, Instruction::PushInt(0)),
+            (INT, Instruction::Dup),
+            (INT_INT, Instruction::Drop),
+            (INT, Instruction::Drop),
+            (EMPTY, Instruction::Jump(0)),
+        ],
+        5,
+        2,
+    ),
+    (
+        "jump to itself",
+        6,
+        &[(EMPTY, Instruction::Tick), (EMPTY, Instruction::Jump(1))],
+        6,
+        1,
+    ),
+    (
+        "jump back to no tick",
+        6,
+        &[
+            (EMPTY, Instruction::Tick),
+            (EMPTY, Instruction::PushInt(0)),
+            (INT, Instruction::Drop),
+            (EMPTY, Instruction::Jump(1)),
+        ],
+        6,
+        3,
+    ),
+    (
+        "branch back to no tick",
+        6,
+        &[
+            (EMPTY, Instruction::Tick),
+            (EMPTY, Instruction::PushInt(0)),
+            (INT, Instruction::Dup),
+            (INT_INT, Instruction::JumpIfZero(2)),
+            (INT, Instruction::Drop),
+            (EMPTY, Instruction::Jump(0)),
+        ],
+        6,
+        3,
+    ),
+    (
+        "1 and 2 at a place",
+        6,
+        &[
+            (EMPTY, Instruction::PushStr(2)),
+            (STR, Instruction::Drop),
+            (EMPTY, Instruction::Jump(0)),
+        ],
+        1,
+        0,
+    ),
+    (
+        "3 and 4 at a place",
+        6,
+        &[
+            (EMPTY, Instruction::Tick),
+            (EMPTY, Instruction::Drop),
+            (INT, Instruction::Drop),
+            (EMPTY, Instruction::Jump(0)),
+        ],
+        3,
+        1,
+    ),
+    (
+        "4 and 6 at a place",
+        6,
+        &[
+            (EMPTY, Instruction::Tick),
+            (EMPTY, Instruction::PushInt(0)),
+            (INT, Instruction::Jump(1)),
+        ],
+        4,
+        2,
+    ),
+    (
+        "5 and 6 at a place",
+        2,
+        &[
+            (EMPTY, Instruction::Tick),
+            (EMPTY, Instruction::Jump(0)),
+            (INT, Instruction::Jump(2)),
+        ],
+        5,
+        2,
+    ),
+    (
+        "6 before 1",
+        6,
+        &[
+            (EMPTY, Instruction::Tick),
+            (EMPTY, Instruction::Jump(1)),
+            (EMPTY, Instruction::PushStr(2)),
+            (STR, Instruction::Drop),
+            (EMPTY, Instruction::Jump(0)),
+        ],
+        6,
+        1,
+    ),
+    (
+        "1 before 6",
+        6,
+        &[
+            (EMPTY, Instruction::Tick),
+            (EMPTY, Instruction::PushStr(2)),
+            (STR, Instruction::Drop),
+            (EMPTY, Instruction::Jump(3)),
+        ],
+        1,
+        1,
+    ),
+    (
+        "2 before 1",
+        6,
+        &[
+            (EMPTY, Instruction::PushInt(0)),
+            (ABSENT, Instruction::Drop),
+            (EMPTY, Instruction::Jump(0)),
+        ],
+        2,
+        0,
+    ),
+];
+
+#[test]
+fn the_first_broken_rule_is_told(rt: HostRuntime) -> Result<(), Fail> {
+    for (name, room, steps, rule, at) in ROWS.iter().copied() {
+        let plans = [with_two_locals(room, steps), called()];
+        assert_eq!(rt; told(rt.alloc(), &plans)?, (rule, 0, at), "{name}");
+    }
+    Ok(())
+}
