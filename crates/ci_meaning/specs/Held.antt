@@ -1,13 +1,12 @@
 -- The configuration that a task of the code holds. The task lends the trees of its project, whose functions take such parameters.
-use Rattle.std.specs.Prelude.{◌≡◌, ℕ, Bool, true, false, List, [], ◌∷◌, map, reverse, drop, Option, Some, None, option_map}
-use Rattle.ci_base.specs.declared.request.Request.{Request}
+use Rattle.std.specs.Prelude.{◌≡◌, Bool, true, false, List, map, reverse, drop, Option, Some, None, option_map}
 use Rattle.ci_base.specs.declared.value.Value.{Value}
-use Rattle.ci_base.specs.Heard.{Element}
 use Rattle.ci_base.specs.Steps.{tick, quiet, asks, stuck}
 use Rattle.ci_tree.specs.Bound as tree
 use Rattle.ci_tree.specs.Bound.{other_from}
 use Rattle.ci_tree.specs.LeftOut.{Heads, constant, followed, left_out}
-use Rattle.ci_tree.specs.SeenBound.{scalar_of, callee_of, expr_of, call_of, links_of, exprs_of, label_of, block_of, clauses_of}
+use Rattle.ci_tree.specs.SeenBound.{scalar_of, callee_of, expr_of, call_of, links_of, exprs_of, label_of, block_of, clauses_of, param_of}
+use Rattle.ci_tree.specs.declared.bound.Param as code_param
 use Rattle.ci_meaning.specs.declared.parts.Targets as code_targets
 use Rattle.ci_meaning.specs.declared.parts.Counting as code_counting
 use Rattle.ci_meaning.specs.declared.parts.Branch as code_branch
@@ -36,6 +35,10 @@ counting_of heads c = record { counter = scalar_of c.counter; last = c.last; bod
 
 abbrev pub branch_of : Heads → code_branch.Branch → to.Branch
 branch_of heads b = record { body = block_of heads b.body.now; rest = clauses_of heads b.rest.now; other = block_of heads b.other.now }
+
+-- the values of these parameters for arguments that are left out, each where it has one
+abbrev pub values_of : List code_param.Param → List (Option Value)
+values_of params = map (λ (p : tree.Param). p.first) (map param_of params)
 
 -- what lies under the top of a stack, the latest first
 unfoldable pub below : {T : Type 0} → List T → List T

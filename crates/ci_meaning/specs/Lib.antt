@@ -4,3 +4,5 @@ pub mod Laws
 pub mod Meaning
 pub mod Moves
 pub mod Operators
+pub mod Widths
+pub mod Within

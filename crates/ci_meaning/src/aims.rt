@@ -39,7 +39,7 @@ pub fn step_reached<'p>(
         Aim::Element { array, index } => {
             let array = *array;
             let index = index.copy();
-            Ok(reach_element(task, project, value, array, &index)?)
+            Ok(reach_element(task, project, value, array, &index))
         }
         Aim::Choose { body, other } => {
             let body = *body;

@@ -1,5 +1,6 @@
 //! Steps where an expression is in hand.
-ghost use Rattle.std.specs.Prelude.{◌≡◌, ◌∷◌, IfOk, OnErr};
+ghost use Rattle.std.specs.Prelude.{◌≡◌, ◌≤◌, ◌∷◌, length, IfOk, OnErr};
+ghost use Rattle.ci_base.specs.declared.bounds.TheConstants.{MOST_TEXT_BYTES};
 ghost use Rattle.ci_base.specs.declared.value.Value.TheVariants as values;
 ghost use Rattle.ci_tree.specs.LeftOut.{Heads};
 ghost use Rattle.ci_tree.specs.SeenBound.{expr_of, scalar_of};
@@ -7,6 +8,7 @@ ghost use Rattle.ci_meaning.specs.Configuration.{eval, give};
 ghost use Rattle.ci_meaning.specs.Held.{want_of, Makes};
 ghost use Rattle.ci_meaning.specs.Meaning as meaning;
 ghost use Rattle.ci_meaning.specs.Moves.{goes};
+ghost use Rattle.ci_meaning.specs.Within.{scalar_within};
 
 use crate::parts::{Hand, Want};
 use crate::stack::push;
@@ -36,10 +38,10 @@ pub fn wanted<'p>(
     Ok(TreeMove::Private { tick: false })
 }
 
-/// A scalar is read: a local at once, a shared cell by a request. No project has a cell of a number that is too large for it.
-pub fn read_scalar(task: &mut TreeTask, of: Scalar) -> Result<TreeMove, OutOfMemory>
-    ensures ok { (heads : Heads) → IfOk result (λ m. Makes heads (meaning.read_scalar (scalar_of of)) task.old m task.new) }
-    ensures err { OnErr result (task.new ≡ task.old) }
+/// A scalar is read: a local at once, a shared cell by a request.
+pub fn read_scalar(task: &mut TreeTask, of: Scalar) -> TreeMove
+    requires { scalar_within (scalar_of of) }
+    ensures { (heads : Heads) → Makes heads (meaning.read_scalar (scalar_of of)) task.old result task.new }
 {
     match of {
         Scalar::Local(i) => {
@@ -47,22 +49,19 @@ pub fn read_scalar(task: &mut TreeTask, of: Scalar) -> Result<TreeMove, OutOfMem
                 Some(value) => value.copy(),
                 None => Value::Int(0),
             };
-            Ok(given(task, value))
+            given(task, value)
         }
-        Scalar::Cell(c) => match u32::try_from(c) {
-            Ok(cell) => Ok(TreeMove::Asks(Request::Read { cell })),
-            Err(_) => Err(OutOfMemory),
-        },
+        Scalar::Cell(c) => TreeMove::Asks(Request::Read { cell: c as u32 }),
     }
 }
 
-/// The text is in hand. No project has one that is too long for it.
-pub fn literal(task: &mut TreeTask, text: &Bytes) -> Result<TreeMove, OutOfMemory>
-    ensures ok { (heads : Heads) → IfOk result (λ m. Makes heads (λ ws aim t. goes (give (values.Str text.now) ws aim) t) task.old m task.new) }
-    ensures err { OnErr result (task.new ≡ task.old) }
+/// The text is in hand.
+pub fn literal(task: &mut TreeTask, text: &Bytes) -> TreeMove
+    requires { length text.now ≤ MOST_TEXT_BYTES }
+    ensures { (heads : Heads) → Makes heads (λ ws aim t. goes (give (values.Str text.now) ws aim) t) task.old result task.new }
 {
     match Text::of(text.bytes()) {
-        Some(text) => Ok(given(task, Value::Str(text))),
-        None => Err(OutOfMemory),
+        Some(text) => given(task, Value::Str(text)),
+        None => unreachable!(),
     }
 }

@@ -46,6 +46,19 @@ pub fn push<T: Drop>(stack: &mut Items<T>, top: T) -> Result<(), OutOfMemory>
     }
 }
 
+/// The same, where another is to take its place.
+#[tactic(auto, using(crate::proofs::Stacks::under_top))]
+pub fn push_spare<T: Drop>(stack: &mut Items<T>, spare: T) -> Result<(), OutOfMemory>
+    ensures some { OnOk result (reverse stack.new ≢ []) }
+    ensures ok { OnOk result (below stack.new ≡ reverse stack.old) }
+    ensures err { OnErr result (stack.new ≡ stack.old) }
+{
+    match stack.push(spare) {
+        Ok(()) => Ok(()),
+        Err(_) => Err(OutOfMemory),
+    }
+}
+
 /// Two are put onto the stack.
 #[tactic(auto, using(crate::proofs::Stacks::taken_off))]
 pub fn push_two<T: Drop>(stack: &mut Items<T>, lower: T, top: T) -> Result<(), OutOfMemory>

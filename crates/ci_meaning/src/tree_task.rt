@@ -1,45 +1,21 @@
 //! One task on the tree, step by step.
-ghost use Rattle.std.specs.Prelude.{◌≡◌, ◌<◌, ◌++◌, length, map, IfOk};
-ghost use Rattle.ci_base.specs.Values as values;
+ghost use Rattle.std.specs.Prelude.{◌≡◌, map, IfOk};
 ghost use Rattle.ci_tree.specs.LeftOut.{Heads};
 ghost use Rattle.ci_tree.specs.SeenBound.{heads_of, project_of};
 ghost use Rattle.ci_meaning.specs.Configuration as configuration;
 ghost use Rattle.ci_meaning.specs.Configuration.{with, opening};
 ghost use Rattle.ci_meaning.specs.Held.{aim_of, below, configuration_of, task_of, want_of, wants_of};
 ghost use Rattle.ci_meaning.specs.Meaning.{answered, resume, resumed};
+ghost use Rattle.ci_meaning.specs.Within.{IsOf, Within};
 
-use crate::operators::first_of_kind;
-use crate::parts::{Aim, Frame, Hand, Left, Want};
-use crate::stack::{drop_top, push, set_top, top};
-use ci_base::{Answer, Args, Extra, Kind, OutOfMemory, Request, Text, Value};
+use crate::entering::open_function;
+use crate::limits::texts_and_cells_fit;
+use crate::parts::{Frame, Hand, Want};
+use crate::stack::{drop_top, set_top, top};
+use ci_base::{Answer, Args, Extra, OutOfMemory, Request, Text, Value};
 use ci_tree::Project;
 use sqlite_items::Items;
 use std::alloc::Global;
-
-/// The locals of a function that is entered with these arguments, and whose other locals have these kinds.
-fn locals_with(alloc: Global, others: &[Kind], args: &[Value]) -> Result<Items<Value>, OutOfMemory>
-    ensures { IfOk result (λ locals. locals ≡ args.now ++ map values.first_of_kind others.now) }
-{
-    let mut locals = copy_values(alloc, args)?;
-    for kind in others {
-        if locals.push(first_of_kind(*kind)).is_err() {
-            return Err(OutOfMemory);
-        }
-    }
-    Ok(locals)
-}
-
-fn copy_values(alloc: Global, args: &[Value]) -> Result<Items<Value>, OutOfMemory>
-    ensures { IfOk result (λ copy. copy ≡ args.now) }
-{
-    let mut copy = Items::new(alloc);
-    for one in args {
-        if copy.push(one.copy()).is_err() {
-            return Err(OutOfMemory);
-        }
-    }
-    Ok(copy)
-}
 
 /// A task on the tree of a project, which it lends. It holds what is in hand, the function that runs, the functions that wait
 /// for it, the last error, the last element that was read from a queue, and whether it goes on after run errors.
@@ -71,27 +47,14 @@ impl<'p> TreeTask<'p> {
         function: u32,
         args: &Args,
     ) -> Result<TreeTask<'p>, OutOfMemory>
-        requires { function < length project.now.functions }
-        ensures { IfOk result (λ task. configuration_of (heads_of project.now.functions) task ≡ opening (project_of project.now) function args.now) }
+        ensures opens { IfOk result (λ task. configuration_of (heads_of project.now.functions) task ≡ opening (project_of project.now) function args.now) }
+        ensures of { IfOk result (λ task. IsOf project.now task) }
     {
-        let found = &project.parts().functions.as_slice()[function as usize];
-        let locals = locals_with(alloc, found.others.as_slice(), args.values())?;
-        let mut left = Items::new(alloc);
-        push(
-            &mut left,
-            Left::Run {
-                rest: found.body.as_slice(),
-            },
-        )?;
+        texts_and_cells_fit(project);
+        let frame = open_function(alloc, project, function as usize, args.values())?;
         Ok(TreeTask {
             hand: Hand::Enter,
-            frame: Frame {
-                function: function as usize,
-                locals,
-                wants: Items::new(alloc),
-                aim: Aim::Return,
-                left,
-            },
+            frame,
             callers: Items::new(alloc),
             error: 0,
             sort: 0,
@@ -102,7 +65,8 @@ impl<'p> TreeTask<'p> {
 
     /// The task has the answer to its request, and goes on from there. Takes no memory.
     pub fn answer(&mut self, answer: &Answer)
-        ensures { (heads : Heads) → configuration_of heads self.new ≡ resume (configuration_of heads self.old) answer.now }
+        ensures resumes { (heads : Heads) → configuration_of heads self.new ≡ resume (configuration_of heads self.old) answer.now }
+        ensures of { (heads : Heads) → Within (configuration_of heads self.old) → Within (configuration_of heads self.new) }
     {
         self.take_value(&answer.value);
         if answer.code != 0 {

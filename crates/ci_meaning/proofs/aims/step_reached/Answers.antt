@@ -1,4 +1,4 @@
-use Rattle.std.proofs.Common.{◌≡◌, sym, ap, ap₂, ◌∙◌, subst}
+use Rattle.std.proofs.Common.{sym, ap, ap₂, ◌∙◌, subst}
 use Rattle.ci_base.specs.declared.value.Value.{Value}
 use Rattle.ci_tree.specs.SeenBound.{project_of}
 use Rattle.ci_meaning.specs.declared.parts.Aim.{Aim}
