@@ -1,5 +1,5 @@
 -- A waiter leaves the list.
-use Rattle.std.proofs.Common.{◌≡◌, ◌<◌, ◌⊎◌, ℕ, Bool, true, false, cond, List, [], ◌∷◌, length, Option, Some, None, refl, sym, ap, ◌∙◌, subst, get_or, eqb, inl, inr}
+use Rattle.std.proofs.Common.{◌≡◌, ◌<◌, ◌⊎◌, ℕ, zero, suc, Bool, true, false, cond, List, [], ◌∷◌, length, Option, Some, None, refl, sym, ap, ◌∙◌, subst, get_or, eqb, inl, inr}
 use Rattle.std.specs.Prelude.{slice_get}
 use Rattle.std.specs.List.{remove}
 use Rattle.ci_base.specs.declared.place.Place.{Place}
@@ -68,3 +68,18 @@ nowhere t ws at = by (waiter_of t ws) refl at
 
 pub stays : (t : ℕ) (ws : List Waiter) → IsAt ws (waiter_of t ws) None → ws ≡ without t ws
 stays t ws at = sym (without_nobody t ws (nowhere t ws at))
+
+-- what is read at the place of a task
+pub seat_at : (t : ℕ) (ws : List Waiter) (i : ℕ) (w : Waiter) → Once ws → IsAt ws (waiter_of t ws) (Some i) → w ≡ get_or ws i w → seats t ws ≡ w.place ∷ []
+seat_at t ws i w once at is = by (waiter_of t ws) refl at
+  where
+    got : (xs : List Waiter) (j : ℕ) (v : Waiter) → slice_get xs j ≡ Some v → get_or xs j w ≡ v
+    got [] j v e = absurd (cc e)
+    got (x ∷ xs) zero v e = cc e
+    got (x ∷ xs) (suc j) v e = got xs j v e
+
+    by : (o : Option Waiter) → waiter_of t ws ≡ o → IsAt ws o (Some i) → seats t ws ≡ w.place ∷ []
+    by None e h = absurd h
+    by (Some v) e h =
+        let same : w ≡ v = is ∙ got ws i v h in
+        (seat_taken t ws i w once at (h ∙ ap (λ (z : Waiter). Some z) (sym same))).1

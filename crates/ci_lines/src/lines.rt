@@ -87,6 +87,20 @@ impl Lines {
         }
     }
 
+    /// Where the task waits.
+    pub fn place(&self, task: u32) -> Option<Place>
+        ensures nowhere { IsNone result ↔ (seats task self.now ≡ []) }
+        ensures place { IfSome result (λ place. seats task self.now ≡ place ∷ []) }
+    {
+        match of_task(self.waiting.as_slice(), task) {
+            Some(at) => {
+                let waiter = &self.waiting[at];
+                Some(waiter.place.copy())
+            }
+            None => None,
+        }
+    }
+
     /// Of those whose limit is at most `now` the first by limit, and then by task, leaves its line.
     pub fn take_due(&mut self, now: u64) -> Option<(u32, Place)>
         ensures found { result ≡ task_and_place (first_due now self.old) }

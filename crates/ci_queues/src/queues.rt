@@ -186,8 +186,8 @@ impl Queues {
         has_number(self.heads.as_slice(), number)
     }
 
-    // The number of the queue of this name.
-    fn named(&self, text: &Text) -> Option<i32>
+    /// The number of the queue of this name. Takes no memory.
+    pub fn named(&self, text: &Text) -> Option<i32>
         ensures { result ≡ queue_named text.now self.now }
     {
         number_named(self.heads.as_slice(), text)

@@ -3,7 +3,7 @@ ghost use Rattle.std.specs.Prelude.{◌≡◌, ◌≤◌, ◌<◌, ◌+◌, ◌^
 ghost use Rattle.ci_base.specs.declared.bounds.TheConstants.{MOST_LIVE_TASKS, MOST_TASKS};
 ghost use Rattle.ci_shared.specs.Roster.{seats};
 ghost use Rattle.ci_shared.specs.Rows.{Follows, FollowsAttempt, FollowsNaming};
-ghost use Rattle.ci_shared.specs.Semaphores.{limit_in, sem_open, sem_wait, sem_signal, sem_close};
+ghost use Rattle.ci_shared.specs.Semaphores.{limit_in, sem_open, sem_wait, sem_signal, sem_close, semaphore_named};
 
 use crate::find::{by_name, by_number};
 use ci_base::bounds::{MOST_COUNT, MOST_OBJECTS};
@@ -83,6 +83,13 @@ impl Sems {
         }
         *next = number + 1;
         numbered(number)
+    }
+
+    /// The number of the semaphore of this name. Takes no memory.
+    pub fn named(&self, text: &Text) -> Option<i32>
+        ensures { result ≡ semaphore_named text.now self.now }
+    {
+        by_name(self.kept.as_slice(), text)
     }
 
     /// The task takes a unit, or waits for one: at most `limit` seconds from the moment `now`, in milliseconds, or for ever

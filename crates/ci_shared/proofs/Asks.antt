@@ -1,5 +1,5 @@
 -- Requests, with what becomes of the asker.
-use Rattle.std.proofs.Common.{◌≡◌, ℕ, zero, suc, ℤ, pos, negsuc, Bool, true, false, cond, List, [], ◌∷◌, length, Option, Some, None, refl, sym, ap, ◌∙◌, subst, inl, inr, map, arith, true≢false, eq-eqb, eqb}
+use Rattle.std.proofs.Common.{◌≡◌, ℕ, zero, suc, ℤ, pos, negsuc, Bool, true, false, cond, List, [], ◌∷◌, length, Option, Some, None, refl, sym, ap, ◌∙◌, subst, inl, inr, map, true≢false, eq-eqb, eqb}
 use Rattle.std.specs.Prelude.{slice_get, ◌==◌, nat_eq, nat_lt, nat_le, ◌||◌}
 use Rattle.ci_base.specs.declared.bounds.TheConstants.{MOST_COUNT, MOST_OBJECTS}
 use Rattle.ci_base.specs.declared.event.EventReply.{EventReply}
@@ -11,7 +11,7 @@ use Rattle.ci_base.specs.declared.task.Birth.{Birth}
 use Rattle.ci_base.specs.declared.task.Delivery.{Delivery}
 use Rattle.ci_base.specs.declared.value.Kind.{Kind}
 use Rattle.ci_base.specs.declared.value.Value.{Value}
-use Rattle.ci_base.specs.Requests.{Fits, IsPlainAnswer, IsQueueAnswer}
+use Rattle.ci_base.specs.Requests.{Fits, IsPlainAnswer}
 use Rattle.ci_base.specs.Values.{kind_of}
 use Rattle.ci_shared.proofs.Fair.{Fair, fair_gone, fair_only, fair_waits, nobody}
 use Rattle.ci_shared.proofs.Fit.{AreFit, SameOrWoke, answers_changes, given_fit}
@@ -20,8 +20,8 @@ use Rattle.ci_shared.specs.Laws.{FitsPlace, IsFormed, Keeps, Other, Own, Same, s
 use Rattle.ci_shared.specs.Roster.{Ended, Killed, Ready, Roster, Standing, Waiting, is_live, leaves, standing_at}
 use Rattle.ci_shared.specs.Rows.{Answers, Attempt, Joins, Outcome, coded, element, given, plain}
 use Rattle.ci_shared.specs.Serving.{apply}
-use Rattle.ci_shared.specs.Started.{Basis, kinds_of}
-use Rattle.ci_shared.specs.State.{Served, Shared, as_reply, attempted, only, said}
+use Rattle.ci_shared.specs.Started.{Basis}
+use Rattle.ci_shared.specs.State.{Served, Shared, as_reply, attempted, said}
 use Rattle.ci_shared.specs.Words.{is_empty, whole}
 use Rattle.ci_shared.specs.declared.object.Item.{Item}
 use Rattle.ci_shared.specs.declared.object.Section.{Section}
@@ -39,8 +39,8 @@ use Rattle.ci_shared.proofs.Owed as rows
 
 -- the answer fits the request, or each answer that fits the place does
 abbrev pub Tells : Basis → Request → Outcome → Type 0
-Tells l q (Answers a) = Fits (kinds_of l) q a
-Tells l q (Joins p limit) = (a : Answer) → FitsPlace p a → Fits (kinds_of l) q a
+Tells l q (Answers a) = Fits l.kinds q a
+Tells l q (Joins p limit) = (a : Answer) → FitsPlace p a → Fits l.kinds q a
 
 pub record TellsRow {O : Type 0} (l : Basis) (q : Request) (r : Attempt O) : Type 0 where
   pub tells : Tells l q r.outcome
@@ -57,7 +57,7 @@ same_is : (a : Answer) (y : EventReply) → a ≡ plain y → IsPlainAnswer a
 same_is a y e = subst (λ (x : Answer). IsPlainAnswer x) (sym e) (plain_is y)
 
 -- of a request that any value and code fit
-plainly : {O : Type 0} (l : Basis) (q : Request) (xs : O) (y : EventReply) → (IsPlainAnswer (plain y) → Fits (kinds_of l) q (plain y)) → TellsRow l q (given xs (plain y))
+plainly : {O : Type 0} (l : Basis) (q : Request) (xs : O) (y : EventReply) → (IsPlainAnswer (plain y) → Fits l.kinds q (plain y)) → TellsRow l q (given xs (plain y))
 plainly l q xs y h = record { tells = h (plain_is y) }
 
 wait_for_tells : (l : Basis) (z n h : ℤ) (now : ℕ) (xs : List Semaphore) (o : Option Semaphore) → TellsRow l (requests.SemWait z n) (sems.wait_at h n now xs o)
@@ -69,19 +69,19 @@ wait_for_tells l z n h now xs (Some x) =
     (record { tells = λ a f. same_is a (coded f.0) f.2 })))
 
 -- no element comes with these codes
-told : (l : Basis) (z mode : ℤ) (code : ℕ) → false ≡ (code == 0) → Fits (kinds_of l) (requests.QueRead z mode) (plain (coded code))
+told : (l : Basis) (z mode : ℤ) (code : ℕ) → false ≡ (code == 0) → Fits l.kinds (requests.QueRead z mode) (plain (coded code))
 told l z mode code e = record { kind = refl; element = e }
 
 read_from_tells : (l : Basis) (z mode h : ℤ) (xs : List queues.Queue) (o : Option queues.Queue) → TellsRow l (requests.QueRead z mode) (queues.read_at h mode xs o)
 read_from_tells l z mode h xs None = record { tells = told l z mode 1 refl }
 read_from_tells l z mode h xs (Some x) = tells_if l _ (int_eq mode (pos 0) || int_eq mode (pos 1)) _ _ (front x.items) (record { tells = told l z mode 10 refl })
   where
-    read_is : (sort : ℤ) (text : List ℕ) → Fits (kinds_of l) (requests.QueRead z mode) (element sort text)
+    read_is : (sort : ℤ) (text : List ℕ) → Fits l.kinds (requests.QueRead z mode) (element sort text)
     read_is sort text = record { kind = refl; element = refl }
 
-    fits : (a : Answer) → FitsPlace (places.Queue h) a → Fits (kinds_of l) (requests.QueRead z mode) a
-    fits a (inl e) = subst (λ (x : Answer). Fits (kinds_of l) (requests.QueRead z mode) x) (sym e) (told l z mode 1 refl)
-    fits a (inr e) = subst (λ (x : Answer). Fits (kinds_of l) (requests.QueRead z mode) x) (sym e.2) (read_is e.0 e.1)
+    fits : (a : Answer) → FitsPlace (places.Queue h) a → Fits l.kinds (requests.QueRead z mode) a
+    fits a (inl e) = subst (λ (x : Answer). Fits l.kinds (requests.QueRead z mode) x) (sym e) (told l z mode 1 refl)
+    fits a (inr e) = subst (λ (x : Answer). Fits l.kinds (requests.QueRead z mode) x) (sym e.2) (read_is e.0 e.1)
 
     front : (is : List Item) → TellsRow l (requests.QueRead z mode) (queues.take_at h mode xs is)
     front (i ∷ is) = record { tells = read_is i.sort i.text }
@@ -97,7 +97,7 @@ enter_of_tells l u name xs (Some x) =
 enter_tells : (l : Basis) (u : ℕ) (name : List ℕ) (xs : List Section) → TellsRow l (requests.Enter name) (sections.enter u name xs)
 enter_tells l u name xs = tells_if l _ (is_empty name) _ _ (plainly l _ _ _ (λ e. e)) (enter_of_tells l u name xs (sections.section_of name xs))
 
-sleep_tells : (l : Basis) (q : Request) → ((a : Answer) → IsPlainAnswer a → Fits (kinds_of l) q a) → (now : ℕ) (n : ℤ) (unit : ℕ) → Tells l q (Steps.sleep now n unit)
+sleep_tells : (l : Basis) (q : Request) → ((a : Answer) → IsPlainAnswer a → Fits l.kinds q a) → (now : ℕ) (n : ℤ) (unit : ℕ) → Tells l q (Steps.sleep now n unit)
 sleep_tells l q h now (negsuc n) unit = h _ (plain_is (coded 10))
 sleep_tells l q h now (pos zero) unit = h _ (plain_is (coded 0))
 sleep_tells l q h now (pos (suc n)) unit = λ a e. h a (same_is a (coded 0) e)
@@ -115,7 +115,7 @@ ready_waits p e = cc
 
 module _ (l : Basis) (s : Shared) (k : Keeps l s) (u : ℕ) (ready : standing_at s.roster u ≡ Some Ready) where
   -- the asker is untouched, and answered
-  lawful : (q : Request) (new : Shared) (a : Answer) (ds : List Delivery) (b : Option Birth) → (victim q ≡ Some u → ⊥) → (IsFormed l q → Fits (kinds_of l) q a) → Fair Reply (IsFormed l q) l (victim q) 0 s (record { shared = new; reply = replies.Answer a; deliveries = ds; birth = b }) →
+  lawful : (q : Request) (new : Shared) (a : Answer) (ds : List Delivery) (b : Option Birth) → (victim q ≡ Some u → ⊥) → (IsFormed l q → Fits l.kinds q a) → Fair Reply (IsFormed l q) l (victim q) 0 s (record { shared = new; reply = replies.Answer a; deliveries = ds; birth = b }) →
       Lawful l u q s (record { shared = new; reply = replies.Answer a; deliveries = ds; birth = b })
   lawful q new a ds b alive fits f = record {
     fair = record { others = λ t st n is. f.others t st (nobody s.roster t st is) is; keeps = f.keeps; answers = f.answers; grows = f.grows };
@@ -131,11 +131,11 @@ module _ (l : Basis) (s : Shared) (k : Keeps l s) (u : ℕ) (ready : standing_at
       untouched s' g (inr (inr h)) = absurd (alive h.0)
 
   -- the asker gets a value and a code
-  lawful_told : (q : Request) (x : Served EventReply) → (victim q ≡ Some u → ⊥) → ((y : EventReply) → Fits (kinds_of l) q (plain y)) → Fair EventReply (IsFormed l q) l (victim q) 0 s x → Lawful l u q s (as_reply x)
+  lawful_told : (q : Request) (x : Served EventReply) → (victim q ≡ Some u → ⊥) → ((y : EventReply) → Fits l.kinds q (plain y)) → Fair EventReply (IsFormed l q) l (victim q) 0 s x → Lawful l u q s (as_reply x)
   lawful_told q x alive fits f = lawful q x.shared (plain x.reply) x.deliveries x.birth alive (λ formed. fits x.reply) (record { others = f.others; keeps = f.keeps; answers = f.answers; grows = f.grows })
 
   -- the asker gets an answer, or waits; nothing else changes but objects
-  lawful_outcome : (q : Request) (new : Shared) (o : Outcome) → (victim q ≡ Some u → ⊥) → new.roster ≡ s.roster → map kind_of new.cells ≡ kinds_of l → (IsFormed l q → Tells l q o) → Lawful l u q s (attempted new u o)
+  lawful_outcome : (q : Request) (new : Shared) (o : Outcome) → (victim q ≡ Some u → ⊥) → new.roster ≡ s.roster → map kind_of new.cells ≡ l.kinds → (IsFormed l q → Tells l q o) → Lawful l u q s (attempted new u o)
   lawful_outcome q new (Answers a) alive e kinds fits = lawful q new a [] None alive fits (fair_only l s k (IsFormed l q) (victim q) 0 new (replies.Answer a) e (λ formed. kinds))
   lawful_outcome q new (Joins p limit) alive e kinds fits = record {
     fair = fair_waits l s k (IsFormed l q) (victim q) u new p limit ready e kinds;

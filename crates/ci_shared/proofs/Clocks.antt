@@ -8,7 +8,7 @@ use Rattle.ci_shared.specs.Laws.{AskClock, ScriptClock}
 use Rattle.ci_shared.specs.Roster.{Killed, is_live_at, standing_at}
 use Rattle.ci_shared.specs.Rows.{Answers, Joins, Outcome}
 use Rattle.ci_shared.specs.Serving.{apply, script}
-use Rattle.ci_shared.specs.Started.{Basis, Refused, Started, Starts, kinds_of, spawn}
+use Rattle.ci_shared.specs.Started.{Basis, Refused, Started, Starts, spawn}
 use Rattle.ci_shared.specs.State.{Served, Shared, as_reply, attempted}
 use Rattle.ci_shared.specs.Words.{same_kind, whole}
 use Rattle.ci_base.specs.declared.event.EventKind.TheVariants as events
@@ -34,7 +34,7 @@ set_kept s v cell (Some k) = choose s.clock (same_kind k (kind_of v)) _ _ refl r
 
 cell_kept : (l : Basis) (s : Shared) (v : Value) (o : Option ℕ) → (Steps.set_cell l s v o).shared.clock ≡ s.clock
 cell_kept l s v None = refl
-cell_kept l s v (Some cell) = set_kept s v cell (slice_get (kinds_of l) cell)
+cell_kept l s v (Some cell) = set_kept s v cell (slice_get l.kinds cell)
 
 kill_kept : (s : Shared) (n : ℕ) → (Steps.kill s n).shared.clock ≡ s.clock
 kill_kept s n = choose s.clock (is_live_at (standing_at s.roster n)) _ _ refl refl
@@ -46,7 +46,7 @@ pub ask_clock : AskClock
 unfolding apply
 ask_clock l s u (requests.Read cell) = came s u (Steps.read (slice_get s.cells cell))
 ask_clock l s u (requests.Write cell v) = refl
-ask_clock l s u (requests.TaskNew name list mode) = started s (spawn l s.roster.tasks name list)
+ask_clock l s u (requests.TaskNew name list mode) = started s (spawn l.functions s.roster.tasks name list)
 ask_clock l s u (requests.TaskKill n) = by (nat_eq (whole n) u)
   where
     by : (b : Bool) → (cond b (Steps.gone Killed u s replies.Ends) (as_reply (Steps.kill s (whole n)))).shared.clock ≡ s.clock
@@ -77,7 +77,7 @@ plus_none n m e = omega (arith, e)
 
 pub script_clock : ScriptClock
 unfolding script
-script_clock l s (events.Run name list) = plus_none _ _ (started s (spawn l s.roster.tasks name list))
+script_clock l s (events.Run name list) = plus_none _ _ (started s (spawn l.functions s.roster.tasks name list))
 script_clock l s (events.Tick ms) = refl
 script_clock l s (events.Kill n) = plus_none _ _ (kill_kept s (whole n))
 script_clock l s (events.Suspend n) = plus_none _ _ (mark_kept true s (whole n))

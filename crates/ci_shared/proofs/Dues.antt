@@ -13,7 +13,7 @@ back a s b t e = grind (arith, nat_tests)
 along : (a s b t c u : ℕ) → (nat_lt a b || (nat_eq a b && nat_lt s t)) ≡ true → (nat_lt c b || (nat_eq c b && nat_lt u t)) ≡ false → (nat_lt c a || (nat_eq c a && nat_lt u s)) ≡ false
 along a s b t c u e f = grind (arith, nat_tests)
 
-all_later : (w x : Waiter) (ys : List Waiter) → is_sooner w x ≡ true → AllLater x ys → AllLater w ys
+pub all_later : (w x : Waiter) (ys : List Waiter) → is_sooner w x ≡ true → AllLater x ys → AllLater w ys
 all_later w x [] e h = tt
 all_later w x (y ∷ ys) e h = (along (limit_of w) w.task (limit_of x) x.task (limit_of y) y.task e h.0, all_later w x ys e h.1)
 

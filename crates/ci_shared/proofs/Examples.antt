@@ -2,6 +2,7 @@
 -- which two of them would hold.
 use Rattle.std.specs.Int.{int_wrap}
 use Rattle.std.specs.Prelude.{◌≡◌, ℕ, pos, negsuc, true, false, List, [], ◌∷◌, ◌++◌, None, Some, replicate, refl}
+use Rattle.ci_base.specs.declared.layout.Head.{Head}
 use Rattle.ci_base.specs.declared.place.Place.{Place}
 use Rattle.ci_base.specs.declared.place.Place.TheVariants as places
 use Rattle.ci_base.specs.declared.reply.Extra.TheVariants as extras
@@ -10,6 +11,12 @@ use Rattle.ci_base.specs.declared.request.Request.TheVariants as requests
 use Rattle.ci_base.specs.declared.event.EventKind.TheVariants as events
 use Rattle.ci_base.specs.declared.value.Kind.TheVariants as kinds
 use Rattle.ci_base.specs.declared.value.Value.TheVariants as values
+use Rattle.ci_base.specs.Letters.{is_digit, is_hex_digit}
+use Rattle.ci_base.specs.Texts.{escape, is_plain}
+use Rattle.ci_literals.specs.Digits.{natural}
+use Rattle.ci_literals.specs.Ints.{int_of}
+use Rattle.ci_literals.specs.Texts.{items_at, text_at}
+use Rattle.ci_shared.specs.Arguments.{arguments, list_of, values_in}
 use Rattle.ci_shared.specs.declared.object.Item.{Item}
 use Rattle.ci_shared.specs.declared.object.Section.{Section}
 use Rattle.ci_shared.specs.declared.object.Semaphore.{Semaphore}
@@ -267,15 +274,12 @@ leave_all = refl
 
 -- THE WHOLE
 
--- functions Main (PUBLIC), hid, Work (PUBLIC); cells INT, STRING; GLOBAL G at cell 0; a list that isn't empty fits nothing
+-- functions Main (PUBLIC), hid, Work (PUBLIC); cells INT, STRING; GLOBAL G at cell 0
 abbrev basis : Basis
 basis = record {
-  layout = record {
-    functions = record { name = 77 ∷ 97 ∷ []; public = true; kinds = []; defaults = [] } ∷ record { name = 104 ∷ []; public = false; kinds = []; defaults = [] } ∷ record { name = 87 ∷ []; public = true; kinds = []; defaults = [] } ∷ [];
-    cells = record { kind = kinds.Int; first = values.Int (pos 5) } ∷ record { kind = kinds.Str; first = values.Str [] } ∷ [];
-    globals = record { name = 71 ∷ []; cell = 0 } ∷ [];
-  };
-  arguments = λ f list. elim list [ [] ↦ Some [] | b ∷ bs ↦ None ];
+  functions = record { name = 77 ∷ 97 ∷ []; public = true; kinds = []; defaults = [] } ∷ record { name = 104 ∷ []; public = false; kinds = []; defaults = [] } ∷ record { name = 87 ∷ []; public = true; kinds = []; defaults = [] } ∷ [];
+  globals = record { name = 71 ∷ []; cell = 0 } ∷ [];
+  kinds = kinds.Int ∷ kinds.Str ∷ [];
 }
 
 abbrev ready : ℕ → Task
@@ -338,22 +342,24 @@ unfolding script
 kills_waiting = refl
 
 -- 5 before 10
-starts_unknown : spawn basis [] (120 ∷ []) (49 ∷ []) ≡ Refused 5
+starts_unknown : spawn basis.functions [] (120 ∷ []) (49 ∷ []) ≡ Refused 5
 starts_unknown = refl
 
-starts_hidden : spawn basis [] (104 ∷ []) [] ≡ Refused 5
+starts_hidden : spawn basis.functions [] (104 ∷ []) [] ≡ Refused 5
 starts_hidden = refl
 
 -- 10 before 11
-starts_bad_list : spawn basis (replicate 64 (ready 0)) (77 ∷ 97 ∷ []) (49 ∷ []) ≡ Refused 10
+starts_bad_list : spawn basis.functions (replicate 64 (ready 0)) (77 ∷ 97 ∷ []) (49 ∷ []) ≡ Refused 10
+unfolding arguments list_of values_in int_of natural
 starts_bad_list = refl
 
-starts_full : spawn basis (replicate 64 (ready 0)) (77 ∷ 97 ∷ []) [] ≡ Refused 11
+starts_full : spawn basis.functions (replicate 64 (ready 0)) (77 ∷ 97 ∷ []) [] ≡ Refused 11
+unfolding arguments list_of
 starts_full = refl
 
 -- the case of letters doesn't count
 starts : (apply basis state 1 (requests.TaskNew (119 ∷ []) [] (pos 7))).birth ≡ Some (record { task = 5; function = 2; args = [] })
-unfolding apply
+unfolding apply arguments list_of
 starts = refl
 
 handle_own : (apply basis state 1 (requests.TaskHnd [])).reply ≡ replies.Answer (plain (number (pos 1)))
@@ -397,3 +403,39 @@ sets = refl
 clock_turns : (apply basis (record state { clock = 6442450944 }) 1 requests.SysTime).reply ≡ replies.Answer (plain (number (negsuc 2147483647)))
 unfolding apply int_wrap
 clock_turns = refl
+
+-- F(INT n, STRING s = "d")
+abbrev given : List Head
+given = record { name = 70 ∷ []; public = true; kinds = kinds.Int ∷ kinds.Str ∷ []; defaults = values.Str (100 ∷ []) ∷ [] } ∷ []
+
+-- 7
+one_given : arguments given 0 (55 ∷ []) ≡ Some (values.Int (pos 7) ∷ values.Str (100 ∷ []) ∷ [])
+unfolding arguments list_of values_in int_of natural
+one_given = refl
+
+-- 7,8
+other_kind_given : arguments given 0 (55 ∷ 44 ∷ 56 ∷ []) ≡ None
+unfolding arguments list_of values_in int_of natural
+other_kind_given = refl
+
+-- 0x10 and the empty text, with spaces round them
+both_given : arguments given 0 (32 ∷ 48 ∷ 120 ∷ 49 ∷ 48 ∷ 32 ∷ 44 ∷ 32 ∷ 34 ∷ 34 ∷ 32 ∷ []) ≡ Some (values.Int (pos 16) ∷ values.Str [] ∷ [])
+unfolding arguments list_of values_in int_of natural int_wrap text_at items_at is_plain escape is_hex_digit is_digit
+both_given = refl
+
+-- none, too many, no value behind a comma, a tab
+none_given : arguments given 0 (32 ∷ []) ≡ None
+unfolding arguments list_of
+none_given = refl
+
+three_given : arguments given 0 (55 ∷ 44 ∷ 34 ∷ 34 ∷ 44 ∷ 55 ∷ []) ≡ None
+unfolding arguments list_of values_in int_of natural text_at items_at is_plain escape is_hex_digit is_digit
+three_given = refl
+
+comma_given : arguments given 0 (55 ∷ 44 ∷ []) ≡ None
+unfolding arguments list_of values_in int_of natural
+comma_given = refl
+
+tab_given : arguments given 0 (9 ∷ 55 ∷ []) ≡ None
+unfolding arguments list_of values_in int_of natural
+tab_given = refl

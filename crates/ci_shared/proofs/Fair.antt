@@ -15,9 +15,10 @@ use Rattle.ci_shared.proofs.Fit.{AreFit, SameOrWoke, answers_changes, answers_fu
 use Rattle.ci_shared.proofs.Numbers.{decide}
 use Rattle.ci_shared.proofs.Seats.{joins_seated, leaves_seated, same_functions, standing_marked, standing_other, standing_pushed, standing_set}
 use Rattle.ci_shared.specs.Laws.{AllWaited, Died, Grows, Keeps, Other, Seated, functions, seat_of, woken}
+use Rattle.ci_shared.specs.Arguments.{arguments}
 use Rattle.ci_shared.specs.Roster.{Ready, Roster, Standing, Task, Waiting, after_answers, change_task, count_live, is_full, is_live, joins, leaves, set_standing, standing_at, standing_from, standing_in, with_mark, with_standing, without}
 use Rattle.ci_shared.specs.Rows.{Joins}
-use Rattle.ci_shared.specs.Started.{Basis, Starts, fresh, kinds_of}
+use Rattle.ci_shared.specs.Started.{Basis, Starts, fresh}
 use Rattle.ci_shared.specs.State.{Served, Shared, attempted, only}
 use Rattle.ci_shared.specs.Steps.{start}
 
@@ -48,7 +49,7 @@ nobody c (suc n) st e same = absurd (cc)
 
 module _ (l : Basis) (s : Shared) (k : Keeps l s) (F : Type 0) (v : Option ℕ) (u : ℕ) where
   -- some are answered, else nobody changes
-  pub fair_answers : {R : Type 0} (new : Shared) (r : R) (ds : List Delivery) → new.roster ≡ after_answers ds s.roster → (F → map kind_of new.cells ≡ kinds_of l) → AreFit s.roster ds → Fair R F l v u s (record { shared = new; reply = r; deliveries = ds; birth = None })
+  pub fair_answers : {R : Type 0} (new : Shared) (r : R) (ds : List Delivery) → new.roster ≡ after_answers ds s.roster → (F → map kind_of new.cells ≡ l.kinds) → AreFit s.roster ds → Fair R F l v u s (record { shared = new; reply = r; deliveries = ds; birth = None })
   fair_answers new r ds e kinds fit = record {
     others = λ t st n is.
         let (st', at, h) = answers_changes ds s.roster t st fit is in
@@ -59,11 +60,11 @@ module _ (l : Basis) (s : Shared) (k : Keeps l s) (F : Type 0) (v : Option ℕ) 
   }
 
   -- nobody changes
-  pub fair_only : {R : Type 0} (new : Shared) (r : R) → new.roster ≡ s.roster → (F → map kind_of new.cells ≡ kinds_of l) → Fair R F l v u s (only new r)
+  pub fair_only : {R : Type 0} (new : Shared) (r : R) → new.roster ≡ s.roster → (F → map kind_of new.cells ≡ l.kinds) → Fair R F l v u s (only new r)
   fair_only new r e kinds = fair_answers new r [] e kinds tt
 
   -- one is no longer live, and some are answered
-  pub fair_gone : {R : Type 0} (new : Shared) (r : R) (y : Standing) (n : ℕ) (ds : List Delivery) → seat_of (Some y) ≡ [] → is_live y ≡ false → (v ≡ Some n) ⊎ (n ≡ u) → new.roster ≡ after_answers ds (leaves y n s.roster) → map kind_of new.cells ≡ kinds_of l → AreFit (leaves y n s.roster) ds →
+  pub fair_gone : {R : Type 0} (new : Shared) (r : R) (y : Standing) (n : ℕ) (ds : List Delivery) → seat_of (Some y) ≡ [] → is_live y ≡ false → (v ≡ Some n) ⊎ (n ≡ u) → new.roster ≡ after_answers ds (leaves y n s.roster) → map kind_of new.cells ≡ l.kinds → AreFit (leaves y n s.roster) ds →
       Fair R F l v u s (record { shared = new; reply = r; deliveries = ds; birth = None })
   fair_gone new r y n ds out dead who e kinds fit = record {
     others = λ t st o is. elim (decide t n) [
@@ -105,7 +106,7 @@ module _ (l : Basis) (s : Shared) (k : Keeps l s) (F : Type 0) (v : Option ℕ) 
       died t st' same o (inr h) = absurd (placed h.0 h.2)
 
   -- the asker waits
-  pub fair_waits : (new : Shared) (p : Place) (limit : Option ℕ) → standing_at s.roster u ≡ Some Ready → new.roster ≡ s.roster → map kind_of new.cells ≡ kinds_of l → Fair Reply F l v u s (attempted new u (Joins p limit))
+  pub fair_waits : (new : Shared) (p : Place) (limit : Option ℕ) → standing_at s.roster u ≡ Some Ready → new.roster ≡ s.roster → map kind_of new.cells ≡ l.kinds → Fair Reply F l v u s (attempted new u (Joins p limit))
   fair_waits new p limit ready e kinds = record {
     others = λ t st n is. (st, ap (λ (c : Roster). standing_at (joins u p limit c) t) e ∙ standing_other s.roster.tasks u t (Waiting p) n ∙ is, inl (refl, refl));
     keeps = λ f. record { seated = subst (λ (c : Roster). Seated (joins u p limit c)) (sym e) (joins_seated s.roster u p limit ready k.seated); few = subst (λ (m : ℕ). m ≤ MOST_LIVE_TASKS) (sym (ap (λ (c : Roster). count_live (joins u p limit c).tasks) e ∙ same_live s.roster.tasks u Ready (Waiting p) ready refl)) k.few; kinds = kinds };
@@ -114,7 +115,7 @@ module _ (l : Basis) (s : Shared) (k : Keeps l s) (F : Type 0) (v : Option ℕ) 
   }
 
   -- a task is born
-  pub fair_born : (b : Birth) (list : List ℕ) → b.task ≡ suc (length s.roster.tasks) → b.function < length l.layout.functions → is_full s.roster.tasks ≡ false → l.arguments b.function list ≡ Some b.args → Fair EventReply F l v u s (start s (Starts b))
+  pub fair_born : (b : Birth) (list : List ℕ) → b.task ≡ suc (length s.roster.tasks) → b.function < length l.functions → is_full s.roster.tasks ≡ false → arguments l.functions b.function list ≡ Some b.args → Fair EventReply F l v u s (start s (Starts b))
   fair_born b list next below free fits = record {
     others = λ t st n is. (st, standing_pushed s.roster.tasks _ t st is, inl (refl, refl));
     keeps = λ g. record { seated = λ t. k.seated t ∙ sym (place_pushed s.roster.tasks (fresh b.function) t refl); few = born_few; kinds = k.kinds };

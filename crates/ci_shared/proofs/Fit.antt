@@ -111,7 +111,7 @@ alone (Some (Waiting q)) p l e = let same : q ≡ p = cc e in (ap (λ (r : Place
 alone (Some (Ended n)) p l e = absurd (cc)
 alone (Some Killed) p l e = absurd (cc)
 
-chosen_none : (f : Waiter → Bool) (t : ℕ) (ws : List Waiter) → seats t ws ≡ [] → seats t (chosen f ws) ≡ []
+pub chosen_none : (f : Waiter → Bool) (t : ℕ) (ws : List Waiter) → seats t ws ≡ [] → seats t (chosen f ws) ≡ []
 chosen_none f t [] e = refl
 chosen_none f t (w ∷ ws) e = by (f w) (decide w.task t) (λ i. chosen_none f t ws i)
   where
@@ -120,7 +120,7 @@ chosen_none f t (w ∷ ws) e = by (f w) (decide w.task t) (λ i. chosen_none f t
     by true (inr n) more = seats_there t w (chosen f ws) n ∙ more (sym (seats_there t w ws n) ∙ e)
     by false (inr n) more = more (sym (seats_there t w ws n) ∙ e)
 
-chosen_one : (f : Waiter → Bool) (t : ℕ) (o : Option Standing) (ws : List Waiter) → seats t ws ≡ seat_of o → (seats t (chosen f ws) ≡ []) ⊎ (seats t (chosen f ws) ≡ seat_of o)
+pub chosen_one : (f : Waiter → Bool) (t : ℕ) (o : Option Standing) (ws : List Waiter) → seats t ws ≡ seat_of o → (seats t (chosen f ws) ≡ []) ⊎ (seats t (chosen f ws) ≡ seat_of o)
 chosen_one f t o [] e = inl refl
 chosen_one f t o (w ∷ ws) e = by (f w) (decide w.task t) (λ i. chosen_one f t o ws i)
   where
@@ -141,7 +141,7 @@ pub chosen_picked : (f : Waiter → Bool) (c : Roster) → Seated c → Picked c
 chosen_picked f c h t = chosen_one f t (standing_at c t) c.waiting (h t)
 
 -- sorting picks the same
-inserted_there : (t : ℕ) (w : Waiter) (ws : List Waiter) → w.task ≢ t → seats t (put_by_limit w ws) ≡ seats t ws
+pub inserted_there : (t : ℕ) (w : Waiter) (ws : List Waiter) → w.task ≢ t → seats t (put_by_limit w ws) ≡ seats t ws
 inserted_there t w [] n = seats_there t w [] n
 inserted_there t w (x ∷ xs) n = by (is_sooner w x) (inserted_there t w xs n)
   where
@@ -149,7 +149,7 @@ inserted_there t w (x ∷ xs) n = by (is_sooner w x) (inserted_there t w xs n)
     by true h = seats_there t w (x ∷ xs) n
     by false h = ap (λ (l : List Place). cond (eqb x.task t) (x.place ∷ l) l) h
 
-inserted_here : (t : ℕ) (w : Waiter) (ws : List Waiter) → w.task ≡ t → seats t ws ≡ [] → seats t (put_by_limit w ws) ≡ w.place ∷ []
+pub inserted_here : (t : ℕ) (w : Waiter) (ws : List Waiter) → w.task ≡ t → seats t ws ≡ [] → seats t (put_by_limit w ws) ≡ w.place ∷ []
 inserted_here t w [] at e = seats_here t w [] at
 inserted_here t w (x ∷ xs) at e = by (is_sooner w x) (decide x.task t) (λ i. inserted_here t w xs at i)
   where

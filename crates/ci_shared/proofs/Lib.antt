@@ -6,7 +6,9 @@ pub mod Examples
 pub mod Fair
 pub mod First
 pub mod Fit
+pub mod Fitted
 pub mod Lines
+pub mod Numbering
 pub mod Numbers
 pub mod Opening
 pub mod Orders

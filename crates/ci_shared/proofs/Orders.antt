@@ -12,7 +12,7 @@ use Rattle.ci_shared.specs.Roster.{Killed, first_in, is_live_at, standing_at}
 use Rattle.ci_shared.specs.Rows.{Answers, Attempt, Joins, Outcome, Row}
 use Rattle.ci_shared.specs.Sections.{after, depart_at, enter, enter_at, given_sections, handed, section_of, with_held, with_section}
 use Rattle.ci_shared.specs.Serving.{apply, script}
-use Rattle.ci_shared.specs.Started.{Basis, Refused, Started, Starts, kinds_of, spawn}
+use Rattle.ci_shared.specs.Started.{Basis, Refused, Started, Starts, spawn}
 use Rattle.ci_shared.specs.State.{Served, Shared, as_reply, attempted}
 use Rattle.ci_shared.specs.Words.{comes_first, is_empty, same_kind, same_text, whole}
 use Rattle.ci_shared.specs.declared.object.Section.{Section}
@@ -183,7 +183,7 @@ set_ordered s v cell (Some k) h = choose (same_kind k (kind_of v)) _ _ h h
 
 cell_ordered : (l : Basis) (s : Shared) (v : Value) (o : Option ℕ) → Ordered s.sections → Ordered (Steps.set_cell l s v o).shared.sections
 cell_ordered l s v None h = h
-cell_ordered l s v (Some cell) h = set_ordered s v cell (slice_get (kinds_of l) cell) h
+cell_ordered l s v (Some cell) h = set_ordered s v cell (slice_get l.kinds cell) h
 
 kill_asked : (s : Shared) (u n : ℕ) (b : Bool) → Ordered s.sections → Ordered (cond b (Steps.gone Killed u s replies.Ends) (as_reply (Steps.kill s n))).shared.sections
 kill_asked s u n true h = given_ordered _ s.sections _ h
@@ -192,7 +192,7 @@ kill_asked s u n false h = kill_ordered s n h
 pub ask_orders : AskOrders
 unfolding apply
 ask_orders l s u (requests.Read cell) h = came s u (Steps.read (slice_get s.cells cell)) h
-ask_orders l s u (requests.TaskNew name list mode) h = started s (spawn l s.roster.tasks name list) h
+ask_orders l s u (requests.TaskNew name list mode) h = started s (spawn l.functions s.roster.tasks name list) h
 ask_orders l s u (requests.TaskKill n) h = kill_asked s u (whole n) (nat_eq (whole n) u) h
 ask_orders l s u (requests.TaskSuspend n) h = mark_ordered true s (whole n) h
 ask_orders l s u (requests.TaskResume n) h = mark_ordered false s (whole n) h
@@ -207,7 +207,7 @@ ask_orders l s u _ h = h
 
 pub script_orders : ScriptOrders
 unfolding script
-script_orders l s (events.Run name list) h = started s (spawn l s.roster.tasks name list) h
+script_orders l s (events.Run name list) h = started s (spawn l.functions s.roster.tasks name list) h
 script_orders l s (events.Kill n) h = kill_ordered s (whole n) h
 script_orders l s (events.Suspend n) h = mark_ordered true s (whole n) h
 script_orders l s (events.Resume n) h = mark_ordered false s (whole n) h

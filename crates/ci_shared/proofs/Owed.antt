@@ -15,9 +15,10 @@ use Rattle.ci_shared.proofs.Fit.{AreFit, by_limit_all, by_limit_picked, chosen_a
 use Rattle.ci_shared.proofs.Numbers.{place_same}
 use Rattle.ci_shared.proofs.Seats.{leaves_seated}
 use Rattle.ci_shared.specs.Laws.{FitsPlace, Keeps, Seated}
+use Rattle.ci_shared.specs.Arguments.{arguments}
 use Rattle.ci_shared.specs.Roster.{Killed, Roster, first_in, is_due, is_full, leaves, line, same_place}
 use Rattle.ci_shared.specs.Rows.{Row, coded, plain, replying, turned_away}
-use Rattle.ci_shared.specs.Started.{Basis, Refused, Starts, kinds_of, public_from, spawn, spawn_of, spawn_with}
+use Rattle.ci_shared.specs.Started.{Basis, Refused, Starts, public_from, spawn, spawn_of, spawn_with}
 use Rattle.ci_shared.specs.State.{Shared, only}
 use Rattle.ci_shared.specs.Words.{same_kind, same_text}
 use Rattle.ci_shared.specs.declared.object.Section.{Section}
@@ -116,7 +117,7 @@ late_fits (places.Queue n) = inl refl
 late_fits (places.Section name) = refl
 late_fits places.Clock = refl
 
-due_fit : (now : ℕ) (c : Roster) → Seated c → AreFit c (Steps.due now c.waiting)
+pub due_fit : (now : ℕ) (c : Roster) → Seated c → AreFit c (Steps.due now c.waiting)
 due_fit now c k = picked_fit _ _ c (by_limit_picked c _ (chosen_picked (is_due now) c k)) (by_limit_all _ _ (chosen_all _ _ (λ w e. late_fits w.place) c.waiting))
 
 -- cells
@@ -152,11 +153,11 @@ module _ (l : Basis) (s : Shared) (k : Keeps l s) (F : Type 0) (v : Option ℕ) 
   by_sections_fair r h = fair_answers l s k F v u _ _ r.deliveries refl (λ f. k.kinds) h.fit
 
   -- nothing changes but objects
-  pub still : (new : Shared) (r : EventReply) → new.roster ≡ s.roster → map kind_of new.cells ≡ kinds_of l → Fair EventReply F l v u s (only new r)
+  pub still : (new : Shared) (r : EventReply) → new.roster ≡ s.roster → map kind_of new.cells ≡ l.kinds → Fair EventReply F l v u s (only new r)
   still new r e kinds = fair_only l s k F v u new r e (λ f. kinds)
 
   -- tasks
-  spawn_with_fair : (f : ℕ) (list : List ℕ) (o : Option (List Value)) → f < length l.layout.functions → l.arguments f list ≡ o → Fair EventReply F l v u s (Steps.start s (spawn_with s.roster.tasks f o))
+  spawn_with_fair : (f : ℕ) (list : List ℕ) (o : Option (List Value)) → f < length l.functions → arguments l.functions f list ≡ o → Fair EventReply F l v u s (Steps.start s (spawn_with s.roster.tasks f o))
   spawn_with_fair f list None below e = still _ _ refl k.kinds
   spawn_with_fair f list (Some args) below e = by (is_full s.roster.tasks) refl
     where
@@ -167,12 +168,12 @@ module _ (l : Basis) (s : Shared) (k : Keeps l s) (F : Type 0) (v : Option ℕ) 
       by true full = still _ _ refl k.kinds
       by false full = fair_born l s k F v u _ list refl below full e
 
-  spawn_of_fair : (name list : List ℕ) (o : Option ℕ) → public_from 0 name l.layout.functions ≡ o → Fair EventReply F l v u s (Steps.start s (spawn_of l s.roster.tasks list o))
+  spawn_of_fair : (name list : List ℕ) (o : Option ℕ) → public_from 0 name l.functions ≡ o → Fair EventReply F l v u s (Steps.start s (spawn_of l.functions s.roster.tasks list o))
   spawn_of_fair name list None e = still _ _ refl k.kinds
-  spawn_of_fair name list (Some f) e = let below : f < 0 + length l.layout.functions = public_below 0 name l.layout.functions f e in spawn_with_fair f list (l.arguments f list) (omega (arith, below)) refl
+  spawn_of_fair name list (Some f) e = let below : f < 0 + length l.functions = public_below 0 name l.functions f e in spawn_with_fair f list (arguments l.functions f list) (omega (arith, below)) refl
 
-  pub start_fair : (name list : List ℕ) → Fair EventReply F l v u s (Steps.start s (spawn l s.roster.tasks name list))
-  start_fair name list = spawn_of_fair name list (public_from 0 name l.layout.functions) refl
+  pub start_fair : (name list : List ℕ) → Fair EventReply F l v u s (Steps.start s (spawn l.functions s.roster.tasks name list))
+  start_fair name list = spawn_of_fair name list (public_from 0 name l.functions) refl
 
   pub kill_fair : (n : ℕ) → v ≡ Some n → Fair EventReply F l v u s (Steps.kill s n)
   kill_fair n e = fair_if l s k F v u _ _ _ (fair_gone l s k F v u _ _ Killed n _ refl refl (inl e) refl k.kinds (given_fit _ s.sections (leaves Killed n s.roster) (leaves_seated s.roster n Killed refl k.seated))) (still _ _ refl k.kinds)
@@ -184,7 +185,7 @@ module _ (l : Basis) (s : Shared) (k : Keeps l s) (F : Type 0) (v : Option ℕ) 
   pub tick_fair : (ms : ℕ) → Fair EventReply F l v u s (Steps.tick s ms)
   tick_fair ms = fair_answers l s k F v u _ _ _ refl (λ f. k.kinds) (due_fit _ s.roster k.seated)
 
-  set_kind_fair : (w : Value) (cell : ℕ) (o : Option Kind) → slice_get (kinds_of l) cell ≡ o → Fair EventReply F l v u s (Steps.set_kind s w cell o)
+  set_kind_fair : (w : Value) (cell : ℕ) (o : Option Kind) → slice_get l.kinds cell ≡ o → Fair EventReply F l v u s (Steps.set_kind s w cell o)
   set_kind_fair w cell None e = still _ _ refl k.kinds
   set_kind_fair w cell (Some kind) e = by (same_kind kind (kind_of w)) refl
     where
@@ -194,4 +195,4 @@ module _ (l : Basis) (s : Shared) (k : Keeps l s) (F : Type 0) (v : Option ℕ) 
 
   pub set_cell_fair : (w : Value) (o : Option ℕ) → Fair EventReply F l v u s (Steps.set_cell l s w o)
   set_cell_fair w None = still _ _ refl k.kinds
-  set_cell_fair w (Some cell) = set_kind_fair w cell (slice_get (kinds_of l) cell) refl
+  set_cell_fair w (Some cell) = set_kind_fair w cell (slice_get l.kinds cell) refl

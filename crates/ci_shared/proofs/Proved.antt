@@ -29,7 +29,7 @@ scripted_fair l s k (events.Suspend n) = rows.mark_fair l s k _ None 0 true (who
 scripted_fair l s k (events.Resume n) = rows.mark_fair l s k _ None 0 false (whole n)
 scripted_fair l s k (events.Put name sort text) = rows.by_queues_fair l s k _ None 0 _ (rows.put_named_fit s.roster k.seated sort text s.queues (queue_named name s.queues))
 scripted_fair l s k (events.Signal name) = rows.by_semaphores_fair l s k _ None 0 _ (rows.signal_named_fit s.roster k.seated s.semaphores (semaphore_named name s.semaphores))
-scripted_fair l s k (events.Set name v) = rows.set_cell_fair l s k _ None 0 v (cell_named name l.layout.globals)
+scripted_fair l s k (events.Set name v) = rows.set_cell_fair l s k _ None 0 v (cell_named name l.globals)
 
 pub other_ask : OtherAsk
 other_ask l s u q t x k ready n is = (asked_lawful l s k u ready q).fair.others t x n is
@@ -59,7 +59,7 @@ opening_keeps l cells e = record { seated = seats; few = omega arith; kinds = e 
     seats zero = refl
     seats (suc n) = refl
 
-few_wait : (l : Basis) (s : Shared) → Keeps l s → length s.roster.waiting ≤ MOST_LIVE_TASKS
+pub few_wait : (l : Basis) (s : Shared) → Keeps l s → length s.roster.waiting ≤ MOST_LIVE_TASKS
 few_wait l s k =
     let live : length s.roster.waiting ≤ count_live s.roster.tasks = waiting_live s.roster.waiting s.roster.tasks k.seated in
     let few : count_live s.roster.tasks ≤ MOST_LIVE_TASKS = k.few in

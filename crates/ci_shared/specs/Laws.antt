@@ -1,8 +1,10 @@
 -- What serving does to each task, and what it keeps.
-use Rattle.std.specs.Prelude.{true, ◌≡◌, ◌≢◌, ◌≤◌, ◌<◌, ◌+◌, ◌⊎◌, ℕ, suc, ℤ, pos, false, if◌then◌else◌, nat_eq, List, [], ◌∷◌, ◌++◌, length, map, Option, None, Some, slice_get}
+use Rattle.std.specs.Prelude.{true, ◌≡◌, ◌≢◌, ◌≤◌, ◌<◌, ◌+◌, ◌⊎◌, ℕ, suc, ℤ, pos, ◌≤ℤ◌, ◌<ℤ◌, false, if◌then◌else◌, nat_eq, List, [], ◌∷◌, ◌++◌, length, map, Option, None, Some, slice_get}
+use Rattle.std.specs.List.{All}
 use Rattle.ci_base.specs.declared.bounds.TheConstants.{MOST_LIVE_TASKS}
 use Rattle.ci_base.specs.declared.event.EventKind.{EventKind}
 use Rattle.ci_base.specs.declared.event.EventKind.TheVariants as events
+use Rattle.ci_base.specs.declared.layout.Head.{Head}
 use Rattle.ci_base.specs.declared.place.Place.{Place}
 use Rattle.ci_base.specs.declared.place.Place.TheVariants as places
 use Rattle.ci_base.specs.declared.reply.Answer.{Answer}
@@ -18,10 +20,11 @@ use Rattle.ci_base.specs.Requests.{Fits}
 use Rattle.ci_base.specs.Values.{kind_of}
 use Rattle.ci_shared.specs.declared.object.Section.{Section}
 use Rattle.ci_shared.specs.declared.waiter.Waiter.{Waiter}
+use Rattle.ci_shared.specs.Arguments.{arguments}
 use Rattle.ci_shared.specs.Roster.{Standing, Ready, Waiting, Ended, Killed, Task, Roster, standing_at, is_live, is_full, count_live, seats, is_sooner, by_limit}
 use Rattle.ci_shared.specs.Rows.{coded, plain, element}
 use Rattle.ci_shared.specs.Serving.{apply, script}
-use Rattle.ci_shared.specs.Started.{Basis, kinds_of, fresh}
+use Rattle.ci_shared.specs.Started.{Basis, fresh}
 use Rattle.ci_shared.specs.State.{Shared}
 use Rattle.ci_shared.specs.Words.{whole, comes_first}
 
@@ -41,7 +44,7 @@ Seated r = (t : ℕ) → seats t r.waiting ≡ seat_of (standing_at r t)
 pub record Keeps (b : Basis) (s : Shared) : Type 0 where
   pub seated : Seated s.roster
   pub few : count_live s.roster.tasks ≤ MOST_LIVE_TASKS
-  pub kinds : map kind_of s.cells ≡ kinds_of b
+  pub kinds : map kind_of s.cells ≡ b.kinds
 
 -- the answers that come to a task which waits at a place
 abbrev pub FitsPlace : Place → Answer → Type 0
@@ -52,8 +55,8 @@ FitsPlace places.Clock a = a ≡ plain (coded 0)
 
 -- a read or a write names a cell that exists, and a write has a value of its kind
 abbrev pub IsFormed : Basis → Request → Type 0
-IsFormed b (requests.Read cell) = (k : Kind) × (slice_get (kinds_of b) cell ≡ Some k)
-IsFormed b (requests.Write cell v) = slice_get (kinds_of b) cell ≡ Some (kind_of v)
+IsFormed b (requests.Read cell) = (k : Kind) × (slice_get b.kinds cell ≡ Some k)
+IsFormed b (requests.Write cell v) = slice_get b.kinds cell ≡ Some (kind_of v)
 IsFormed b q = Unit {0}
 
 -- the answers that deliveries bring to a task
@@ -88,8 +91,8 @@ Other v t x x' got = Same x x' got ⊎ (Woke x x' got ⊎ Died v t x' got)
 
 -- what may happen to the task that asks
 abbrev pub Own : Basis → Request → Reply → Standing → Type 0
-Own b q (replies.Answer a) x' = (x' ≡ Ready) × Fits (kinds_of b) q a
-Own b q replies.Waits x' = (p : Place) × (x' ≡ Waiting p) × ((a : Answer) → FitsPlace p a → Fits (kinds_of b) q a)
+Own b q (replies.Answer a) x' = (x' ≡ Ready) × Fits b.kinds q a
+Own b q replies.Waits x' = (p : Place) × (x' ≡ Waiting p) × ((a : Answer) → FitsPlace p a → Fits b.kinds q a)
 Own b q replies.Ends x' = is_live x' ≡ false
 
 -- each answer goes to a task that waited, and fits its place
@@ -105,8 +108,8 @@ functions xs = map (λ x. x.function) xs
 abbrev pub Grows : Basis → List Task → List Task → Option Birth → Type 0
 Grows b old new None = functions new ≡ functions old
 Grows b old new (Some birth) =
-    (new ≡ old ++ fresh birth.function ∷ []) × (birth.task ≡ suc (length old)) × (birth.function < length b.layout.functions) × (is_full old ≡ false)
-    × ((list : List ℕ) × (b.arguments birth.function list ≡ Some birth.args))
+    (new ≡ old ++ fresh birth.function ∷ []) × (birth.task ≡ suc (length old)) × (birth.function < length b.functions) × (is_full old ≡ false)
+    × ((list : List ℕ) × (arguments b.functions birth.function list ≡ Some birth.args))
 
 -- the laws: of a request of a ready task, and of an event
 abbrev pub OtherAsk : Type 0
@@ -150,7 +153,7 @@ abbrev pub opening : List Value → Shared
 opening cells = record { roster = record { tasks = []; waiting = [] }; cells = cells; semaphores = []; queues = []; sections = []; clock = 0; next = pos 1 }
 
 abbrev pub OpeningKeeps : Type 0
-OpeningKeeps = (b : Basis) (cells : List Value) → map kind_of cells ≡ kinds_of b → Keeps b (opening cells)
+OpeningKeeps = (b : Basis) (cells : List Value) → map kind_of cells ≡ b.kinds → Keeps b (opening cells)
 
 -- by how much an event moves the clock
 abbrev pub gained : EventKind → ℕ
@@ -189,3 +192,22 @@ InOrder (x ∷ xs) = AllLater x xs × InOrder xs
 
 abbrev pub DuesInOrder : Type 0
 DuesInOrder = (ws : List Waiter) → InOrder (by_limit ws)
+
+-- the next number is at least 1, and above those of the semaphores and the queues
+pub record IsNumbered (s : Shared) : Type 0 where
+  pub least : pos 1 ≤ℤ s.next
+  pub semaphores : All (λ x. x.number <ℤ s.next) s.semaphores
+  pub queues : All (λ x. x.number <ℤ s.next) s.queues
+
+abbrev pub AskNumbers : Type 0
+AskNumbers = (b : Basis) (s : Shared) (u : ℕ) (q : Request) → IsNumbered s → IsNumbered (apply b s u q).shared
+
+abbrev pub ScriptNumbers : Type 0
+ScriptNumbers = (b : Basis) (s : Shared) (e : EventKind) → IsNumbered s → IsNumbered (script b s e).shared
+
+abbrev pub OpeningNumbers : Type 0
+OpeningNumbers = (cells : List Value) → IsNumbered (opening cells)
+
+-- what a function takes from a list is of the kinds of its parameters
+abbrev pub ArgumentsFit : Type 0
+ArgumentsFit = (hs : List Head) (f : ℕ) (list : List ℕ) (args : List Value) → arguments hs f list ≡ Some args → (h : Head) × (slice_get hs f ≡ Some h) × (map kind_of args ≡ h.kinds)

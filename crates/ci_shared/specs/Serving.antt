@@ -22,11 +22,11 @@ use Rattle.ci_shared.specs.Words.{whole}
 unfoldable pub apply : Basis → Shared → ℕ → Request → Served Reply
 apply b s u (requests.Read cell) = attempted s u (read (slice_get s.cells cell))
 apply b s u (requests.Write cell v) = said (written s cell v) (coded 0)
-apply b s u (requests.TaskNew name list mode) = as_reply (start s (spawn b s.roster.tasks name list))
+apply b s u (requests.TaskNew name list mode) = as_reply (start s (spawn b.functions s.roster.tasks name list))
 apply b s u (requests.TaskKill n) = if nat_eq (whole n) u then gone Killed u s replies.Ends else as_reply (kill s (whole n))
 apply b s u (requests.TaskSuspend n) = as_reply (mark true s (whole n))
 apply b s u (requests.TaskResume n) = as_reply (mark false s (whole n))
-apply b s u (requests.TaskHnd name) = said s (task_named b u name s.roster.tasks)
+apply b s u (requests.TaskHnd name) = said s (task_named b.functions u name s.roster.tasks)
 apply b s u (requests.Sleep n) = attempted s u (sleep s.clock n 1000)
 apply b s u (requests.SleepMS n) = attempted s u (sleep s.clock n 1)
 apply b s u (requests.SemOpen name mode) = as_reply (open_semaphore s (sem_open name mode s.next s.semaphores))
@@ -46,11 +46,11 @@ apply b s u (requests.End code) = gone (Ended code) u s replies.Ends
 
 -- an event
 unfoldable pub script : Basis → Shared → EventKind → Served EventReply
-script b s (events.Run name list) = start s (spawn b s.roster.tasks name list)
+script b s (events.Run name list) = start s (spawn b.functions s.roster.tasks name list)
 script b s (events.Tick ms) = tick s (whole ms)
 script b s (events.Kill n) = kill s (whole n)
 script b s (events.Suspend n) = mark true s (whole n)
 script b s (events.Resume n) = mark false s (whole n)
 script b s (events.Put name sort text) = by_queues s (put_named sort text s.queues s.roster.waiting (queue_named name s.queues))
 script b s (events.Signal name) = by_semaphores s (signal_named s.semaphores s.roster.waiting (semaphore_named name s.semaphores))
-script b s (events.Set name v) = set_cell b s v (cell_named name b.layout.globals)
+script b s (events.Set name v) = set_cell b s v (cell_named name b.globals)

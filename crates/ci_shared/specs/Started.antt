@@ -2,23 +2,25 @@
 use Rattle.std.specs.Prelude.{ℕ, suc, ◌&&◌, Bool, false, pos, if◌then◌else◌, List, [], ◌∷◌, length, map, Option, None, Some, slice_get}
 use Rattle.std.specs.Str.{str_eq_ignore_ascii_case}
 use Rattle.ci_base.specs.declared.event.EventReply.{EventReply}
+use Rattle.ci_base.specs.declared.layout.Global.{Global}
 use Rattle.ci_base.specs.declared.layout.Head.{Head}
 use Rattle.ci_base.specs.declared.layout.Layout.{Layout}
 use Rattle.ci_base.specs.declared.task.Birth.{Birth}
 use Rattle.ci_base.specs.declared.value.Kind.{Kind}
 use Rattle.ci_base.specs.declared.value.Value.{Value}
+use Rattle.ci_shared.specs.Arguments.{arguments}
 use Rattle.ci_shared.specs.Roster.{Task, Ready, is_live, is_full}
 use Rattle.ci_shared.specs.Rows.{refused, number}
 use Rattle.ci_shared.specs.Words.{is_empty}
 
--- what serving knows of a project: its layout, and the arguments that a function takes from a list, where the list fits it
+-- what serving knows of a project: its functions, its GLOBAL scalars, and the kinds of its cells
 pub record Basis : Type 0 where
-  pub layout : Layout
-  pub arguments : ℕ → List ℕ → Option (List Value)
+  pub functions : List Head
+  pub globals : List Global
+  pub kinds : List Kind
 
--- the kinds of the cells
-abbrev pub kinds_of : Basis → List Kind
-kinds_of b = map (λ cell. cell.kind) b.layout.cells
+abbrev pub basis_of : Layout → Basis
+basis_of l = record { functions = l.functions; globals = l.globals; kinds = map (λ cell. cell.kind) l.cells }
 
 pub data Started : Type 0 where
   Refused : ℕ → Started
@@ -33,13 +35,13 @@ abbrev pub spawn_with : List Task → ℕ → Option (List Value) → Started
 spawn_with xs f None = Refused 10
 spawn_with xs f (Some args) = if is_full xs then Refused 11 else Starts (record { task = suc (length xs); function = f; args = args })
 
-abbrev pub spawn_of : Basis → List Task → List ℕ → Option ℕ → Started
-spawn_of b xs list None = Refused 5
-spawn_of b xs list (Some f) = spawn_with xs f (b.arguments f list)
+abbrev pub spawn_of : List Head → List Task → List ℕ → Option ℕ → Started
+spawn_of hs xs list None = Refused 5
+spawn_of hs xs list (Some f) = spawn_with xs f (arguments hs f list)
 
 -- 5 no such function; 10 the list isn't one, or doesn't fit; 11 there are as many tasks as there may be; else a new task
-abbrev pub spawn : Basis → List Task → List ℕ → List ℕ → Started
-spawn b xs name list = spawn_of b xs list (public_from 0 name b.layout.functions)
+abbrev pub spawn : List Head → List Task → List ℕ → List ℕ → Started
+spawn hs xs name list = spawn_of hs xs list (public_from 0 name hs)
 
 abbrev pub fresh : ℕ → Task
 fresh f = record { function = f; standing = Ready; suspended = false }
@@ -50,11 +52,16 @@ has_name name None = false
 has_name name (Some h) = str_eq_ignore_ascii_case name h.name
 
 -- the least live task of a function of this name; the front task has number n
-abbrev pub least_live : Basis → List ℕ → ℕ → List Task → EventReply
-least_live b name n [] = refused 5
-least_live b name n (x ∷ xs) =
-    if is_live x.standing && has_name name (slice_get b.layout.functions x.function) then number (pos n)
-    else least_live b name (suc n) xs
+abbrev pub least_live : List Head → List ℕ → ℕ → List Task → Option ℕ
+least_live hs name n [] = None
+least_live hs name n (x ∷ xs) =
+    if is_live x.standing && has_name name (slice_get hs x.function) then Some n
+    else least_live hs name (suc n) xs
 
-abbrev pub task_named : Basis → ℕ → List ℕ → List Task → EventReply
-task_named b u name xs = if is_empty name then number (pos u) else least_live b name 1 xs
+-- its number; 5 where there is none
+abbrev pub number_or_5 : Option ℕ → EventReply
+number_or_5 None = refused 5
+number_or_5 (Some n) = number (pos n)
+
+abbrev pub task_named : List Head → ℕ → List ℕ → List Task → EventReply
+task_named hs u name xs = if is_empty name then number (pos u) else number_or_5 (least_live hs name 1 xs)

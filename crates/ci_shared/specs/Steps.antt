@@ -19,7 +19,7 @@ use Rattle.ci_shared.specs.Queues.{Queue}
 use Rattle.ci_shared.specs.Roster.{Standing, Killed, standing_at, change_task, with_mark, is_live_at, answers_to, leaves, is_due, by_limit, chosen}
 use Rattle.ci_shared.specs.Rows.{Row, Attempt, Naming, Outcome, Answers, Joins, coded, refused, number, plain}
 use Rattle.ci_shared.specs.Sections.{depart_all}
-use Rattle.ci_shared.specs.Started.{Basis, kinds_of, Started, Refused, Starts, fresh}
+use Rattle.ci_shared.specs.Started.{Basis, Started, Refused, Starts, fresh}
 use Rattle.ci_shared.specs.State.{Shared, Served, only, answering, attempted}
 use Rattle.ci_shared.specs.Words.{same_kind}
 
@@ -92,7 +92,7 @@ set_kind s v cell (Some k) = if same_kind k (kind_of v) then only (written s cel
 
 abbrev pub set_cell : Basis → Shared → Value → Option ℕ → Served EventReply
 set_cell b s v None = only s (coded 5)
-set_cell b s v (Some cell) = set_kind s v cell (slice_get (kinds_of b) cell)
+set_cell b s v (Some cell) = set_kind s v cell (slice_get b.kinds cell)
 
 -- the clock; a unit is so many milliseconds
 abbrev pub sleep : ℕ → ℤ → ℕ → Outcome

@@ -1,6 +1,6 @@
 //! Laws of serving, for those who use the definitions without looking into them. The functions do nothing: what they
 //! ensure is the law.
-ghost use Rattle.ci_shared.specs.Laws.{OtherAsk, OwnAsk, OtherScript, AskGrows, ScriptGrows, AskKeeps, ScriptKeeps, OpeningKeeps, AskAnswers, ScriptAnswers, RoomToWait, AskClock, ScriptClock, AskOrders, ScriptOrders, DuesInOrder};
+ghost use Rattle.ci_shared.specs.Laws.{OtherAsk, OwnAsk, OtherScript, AskGrows, ScriptGrows, AskKeeps, ScriptKeeps, OpeningKeeps, AskAnswers, ScriptAnswers, RoomToWait, AskClock, ScriptClock, AskOrders, ScriptOrders, DuesInOrder, AskNumbers, ScriptNumbers, OpeningNumbers, ArgumentsFit};
 
 /// A request leaves a task that doesn't ask as it is, or answers it where it waited, or kills it where it names it.
 pub fn other_ask()
@@ -81,4 +81,24 @@ pub fn script_orders()
 /// Those that a tick answers come by their limits, and of one limit by their numbers.
 pub fn dues_in_order()
     ensures { DuesInOrder }
+{}
+
+/// A request keeps the next number above those of the semaphores and the queues.
+pub fn ask_numbers()
+    ensures { AskNumbers }
+{}
+
+/// An event keeps the next number above those of the semaphores and the queues.
+pub fn script_numbers()
+    ensures { ScriptNumbers }
+{}
+
+/// At the beginning no number has been given.
+pub fn opening_numbers()
+    ensures { OpeningNumbers }
+{}
+
+/// The arguments that a function takes from a list are of the kinds of its parameters.
+pub fn arguments_fit()
+    ensures { ArgumentsFit }
 {}

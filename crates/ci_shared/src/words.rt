@@ -2,7 +2,7 @@
 ghost use Rattle.std.specs.Prelude.{◌≡◌};
 ghost use Rattle.std.specs.Ordering.{int_eq};
 ghost use Rattle.ci_shared.specs.Rows.{last_number};
-ghost use Rattle.ci_shared.specs.Words.{is_empty, is_mode, same_text};
+ghost use Rattle.ci_shared.specs.Words.{is_empty, is_mode, same_text, whole};
 
 use ci_base::Text;
 
@@ -35,4 +35,11 @@ pub fn is_same(text: &Text, other: &Text) -> bool
     ensures { result ≡ same_text text.now other.now }
 {
     *text == *other
+}
+
+/// The number of a task, as it counts: a negative one is 0, which no task has.
+pub fn whole(number: i32) -> u32
+    ensures { result ≡ whole number }
+{
+    if number < 0 { 0 } else { number as u32 }
 }

@@ -1,0 +1,7 @@
+mod Answering
+mod Asking
+mod Celled
+mod Ending
+mod Placed
+mod Ticking
+mod Whole

@@ -1,0 +1,28 @@
+use Rattle.std.proofs.lemmas.Int.{to_z-of_z}
+use Rattle.std.proofs.Common.{to_z, of_z, w32, ◌≡◌, ◌∙◌, List, ap}
+use Rattle.ci_base.specs.declared.task.Delivery.{Delivery}
+use Rattle.ci_shared.proofs.Owed.{signal_fit}
+use Rattle.ci_shared.specs.Semaphores.{sem_signal}
+use Rattle.ci_store.proofs.Answering.{got_row, semaphores_do}
+use Rattle.ci_store.proofs.Asking.{lives, room}
+use Rattle.ci_store.specs.Done.{freed}
+use Rattle.ci_store.specs.Stored.{roster_of}
+use Rattle.ci_store.proofs.objects.signal.Goals as goal
+
+pub signal-answer-requires : goal.signal-answer-requires
+signal-answer-requires c = room c.args.parts.now c.requires
+
+pub free-requires : goal.free-requires
+free-requires c =
+    let number_is : to_z w32 (of_z w32 c.args.number) ≡ c.args.number = to_z-of_z w32 c.args.number c.ranges.number in
+    let p = c.args.parts.now in
+    let fit = signal_fit (roster_of p) c.requires.sound.keeps.seated c.args.number p.sems in
+    lives p (sem_signal c.args.number p.sems p.lines).deliveries c.deliveries.result.now fit.fit
+    (c.deliveries.ensures.value ∙ got_row p c.requires (sem_signal c.args.number p.sems p.lines) c.signal-answer.result c.signal-answer.new.self c.signal-answer.new.lines c.signal-answer.new.woken (rw number_is at c.signal-answer.ensures))
+
+pub returns : goal.returns
+returns c =
+    let number_is : to_z w32 (of_z w32 c.args.number) ≡ c.args.number = to_z-of_z w32 c.args.number c.ranges.number in
+    let p = c.args.parts.now in
+    semaphores_do p c.requires c.signal-answer.result c.signal-answer.new.lines c.signal-answer.new.woken c.free.new.tasks (sem_signal c.args.number p.sems p.lines) c.signal-answer.new.self (rw number_is at c.signal-answer.ensures)
+    (c.free.ensures ∙ ap (λ (ds : List Delivery). freed ds p.tasks) c.deliveries.ensures.value)

@@ -1,0 +1,5 @@
+pub mod Fitting
+pub mod Living
+pub mod Placing
+pub mod Reading
+pub mod Spawning
