@@ -1,0 +1,22 @@
+-- What stands on top of a stack.
+use Rattle.std.specs.Prelude.{◌≡◌, ℤ, List, [], ◌∷◌, ◌++◌, Option, Some, None}
+use Rattle.ci_base.specs.declared.value.Value.{Value}
+use Rattle.ci_base.specs.declared.value.Value.TheVariants.{Int}
+
+-- the value on top, and what is below it
+abbrev pub last_of : List Value → Option Value
+last_of [] = None
+last_of (v ∷ []) = Some v
+last_of (v ∷ w ∷ more) = last_of (w ∷ more)
+
+abbrev pub without_last : List Value → List Value
+without_last [] = []
+without_last (v ∷ []) = []
+without_last (v ∷ w ∷ more) = v ∷ without_last (w ∷ more)
+
+-- an INT is on top, or is below the value on top
+abbrev pub EndsInNumber : List Value → Type 0
+EndsInNumber stack = (low : List Value) × (n : ℤ) × (stack ≡ low ++ Int n ∷ [])
+
+abbrev pub SecondIsNumber : List Value → Type 0
+SecondIsNumber stack = (low : List Value) × (n : ℤ) × (v : Value) × (stack ≡ low ++ Int n ∷ v ∷ [])

@@ -1,0 +1,178 @@
+//! The places of a stack.
+ghost use Rattle.std.specs.Prelude.{◌≡◌, ◌<◌, ◌≤◌, List, ℕ, ℤ, length, slice_get, slice_set, Some, IfOk};
+ghost use Rattle.std.specs.Vec.{vec_capacity};
+ghost use Rattle.ci_base.specs.declared.bounds.TheConstants.{MOST_ROOM, MOST_TEXT_BYTES};
+ghost use Rattle.ci_base.specs.declared.value.Value.{Value};
+ghost use Rattle.ci_base.specs.declared.value.Value.TheVariants.{Int, Str};
+ghost use Rattle.ci_stack.specs.Places.{IsNumberAt, IsTextAt, values};
+
+use crate::letters::Letters;
+use ci_base::bounds::MOST_ROOM;
+use ci_base::{OutOfMemory, Text, Value};
+use std::alloc::Global;
+use std::marker::Model;
+
+/// The word of a place that holds a text.
+const TEXT: i64 = 4_294_967_296;
+
+/// The 4,096 places, each with a value. Contracts see the list of the values.
+///
+/// Each place has a word: the INT that it holds, or the mark of a text, which then stands in the table of texts. A place of
+/// that table is touched only once a text comes to it, or to one behind it.
+#[derive(Debug, Drop)]
+pub struct Table {
+    words: Vec<i64>,
+    texts: Vec<Letters>,
+}
+
+impl Model for Table {
+    ghost use Rattle.std.specs.Prelude.{List};
+    ghost use Rattle.std.specs.Vec.{vec_capacity};
+    ghost use Rattle.ci_base.specs.declared.value.Value.{Value as Held};
+    ghost use Rattle.ci_stack.specs.Places.{IsSound, values};
+
+    ghost Value = { List Held };
+
+    ghost view = { λ table. values table.words.items table.texts.items };
+
+    ghost invariant = { λ table. IsSound table.words.items table.texts.items (vec_capacity table.texts) };
+}
+
+impl Table {
+    /// A table, with the INT 0 everywhere.
+    pub fn room(alloc: Global) -> Result<Table, OutOfMemory>
+        ensures { IfOk result (λ table. length table ≡ MOST_ROOM) }
+    {
+        let mut words: Vec<i64> = Vec::new(alloc);
+        match words.resize(MOST_ROOM, 0) {
+            Ok(()) => {}
+            Err(_) => return Err(OutOfMemory),
+        }
+        match Vec::with_capacity(alloc, MOST_ROOM) {
+            Ok(texts) => Ok(Table { words, texts }),
+            Err(_) => Err(OutOfMemory),
+        }
+    }
+
+    /// The INT at a place.
+    #[inline(always)]
+    pub fn number(&self, place: usize) -> i32
+        requires { IsNumberAt self.now place }
+        ensures { slice_get self.now place ≡ Some (Int result) }
+    {
+        let _words = &self.words;
+        self.words[place] as i32
+    }
+
+    /// The bytes of the text at a place.
+    #[inline(always)]
+    pub fn text(&self, place: usize) -> &[u8]
+        requires { IsTextAt self.now place }
+        ensures value { slice_get self.now place ≡ Some (Str result.now) }
+        ensures within { length result.now ≤ MOST_TEXT_BYTES }
+    {
+        if place < self.texts.len() {
+            self.texts[place].bytes()
+        } else {
+            &[]
+        }
+    }
+
+    /// The INT comes to a place.
+    #[inline(always)]
+    pub fn put_number(&mut self, place: usize, n: i32)
+        requires { place < length self.old }
+        ensures { self.new ≡ slice_set self.old place (Int n) }
+    {
+        let _words = &self.words;
+        self.words[place] = n as i64;
+    }
+
+    /// The text of these bytes comes to a place.
+    pub fn put_text(&mut self, place: usize, bytes: &[u8])
+        requires within { place < length self.old }
+        requires short { length bytes.now ≤ MOST_TEXT_BYTES }
+        ensures { self.new ≡ slice_set self.old place (Str bytes.now) }
+    {
+        let _words = &self.words;
+        reach(&mut self.texts, place);
+        self.words[place] = TEXT;
+        self.texts[place].set(bytes);
+    }
+
+    /// The value at one place comes to another one too.
+    #[inline(always)]
+    pub fn copy(&mut self, from: usize, to: usize)
+        requires from { from < length self.old }
+        requires to { to < length self.old }
+        ensures copied { (v : Value) → slice_get self.old from ≡ Some v → self.new ≡ slice_set self.old to v }
+        ensures length { length self.new ≡ length self.old }
+    {
+        let word = self.words[from];
+        if word == TEXT {
+            self.copy_text(from, to);
+        } else {
+            self.words[to] = word;
+        }
+    }
+
+    /// The text at one place comes to another one too.
+    fn copy_text(&mut self, from: usize, to: usize)
+        requires from { IsTextAt self.old from }
+        requires to { to < length self.old }
+        ensures copied { (s : List ℕ) → slice_get self.old from ≡ Some (Str s) → self.new ≡ slice_set self.old to (Str s) }
+        ensures length { length self.new ≡ length self.old }
+    {
+        let text = self.text_of(from);
+        self.put_text(to, text.bytes());
+    }
+
+    /// The text at a place, as a value of its own.
+    pub fn text_of(&self, place: usize) -> Text
+        requires { IsTextAt self.now place }
+        ensures { slice_get self.now place ≡ Some (Str result) }
+    {
+        match Text::of(self.text(place)) {
+            Some(text) => text,
+            None => unreachable!(),
+        }
+    }
+
+    /// The value at a place.
+    pub fn value(&self, place: usize) -> Value
+        requires { place < length self.now }
+        ensures { slice_get self.now place ≡ Some result }
+    {
+        if self.words[place] == TEXT {
+            Value::Str(self.text_of(place))
+        } else {
+            Value::Int(self.number(place))
+        }
+    }
+
+    /// The value comes to a place.
+    pub fn put(&mut self, place: usize, value: &Value)
+        requires { place < length self.old }
+        ensures { self.new ≡ slice_set self.old place value.now }
+    {
+        match value {
+            Value::Int(n) => self.put_number(place, *n),
+            Value::Str(text) => self.put_text(place, text.bytes()),
+        }
+    }
+}
+
+/// The table has a text at that place, where need be an empty one.
+fn reach(texts: &mut Vec<Letters>, place: usize)
+    requires { place < vec_capacity texts.old }
+    ensures same { (words : List ℤ) → values words texts.new.items ≡ values words texts.old.items }
+    ensures within { place < length texts.new.items }
+    ensures capacity { vec_capacity texts.old ≤ vec_capacity texts.new }
+{
+    'reach: while texts.len() <= place {
+        match texts.push(Letters::none()) {
+            Ok(()) => {}
+            Err(_) => unreachable!(),
+        }
+    }
+}

@@ -1,0 +1,5 @@
+pub mod Spelled
+pub mod Operators
+pub mod Going
+pub mod Running
+pub mod Moved

@@ -1,0 +1,135 @@
+//! The instructions that are met most.
+ghost use Rattle.std.specs.Prelude.{◌≡◌, ◌+◌, ◌<◌, ◌^◌, true};
+ghost use Rattle.ci_code.specs.declared.instruction.Instruction.TheVariants as does;
+ghost use Rattle.ci_task.specs.Going.{next_place, Can, Does};
+ghost use Rattle.ci_task.specs.Operators.{is_whole};
+ghost use Rattle.ci_task.specs.Operators as operators;
+
+use crate::active::Active;
+use ci_builtin::{
+    common_bits, conjunction, difference, differing_bits, disjunction, joint_bits, product,
+    relates, sum, truth,
+};
+use ci_code::{Instruction, RawParts};
+use ci_stack::TaskStack;
+
+/// The INT that an instruction makes of two.
+#[inline(always)]
+fn whole(what: Instruction, a: i32, b: i32) -> i32
+    requires { is_whole what ≡ true }
+    ensures { result ≡ operators.whole what a b }
+{
+    match what {
+        Instruction::Add => sum(a, b),
+        Instruction::Sub => difference(a, b),
+        Instruction::Mul => product(a, b),
+        Instruction::And => conjunction(a, b),
+        Instruction::Or => disjunction(a, b),
+        Instruction::BitAnd => common_bits(a, b),
+        Instruction::BitOr => joint_bits(a, b),
+        Instruction::BitXor => differing_bits(a, b),
+        Instruction::CmpInt(relation) => truth(relates(relation, a.cmp(&b))),
+        _ => unreachable!(),
+    }
+}
+
+/// Two INTs give place to the one that they make.
+#[inline(always)]
+pub fn two_ints(code: &RawParts, what: Instruction, at: Active, stack: &mut TaskStack)
+    requires whole { is_whole what ≡ true }
+    requires can { Can code.now what at stack.old }
+    ensures { Does code.now what at stack.old (next_place at) stack.new }
+{
+    let high = stack.last_number();
+    let low = stack.second_number();
+    let result = whole(what, low, high);
+    stack.replace_by_number(2, result);
+}
+
+/// An INT goes on top.
+#[inline(always)]
+pub fn push_int(code: &RawParts, n: i32, at: Active, stack: &mut TaskStack)
+    requires { Can code.now (does.PushInt n) at stack.old }
+    ensures { Does code.now (does.PushInt n) at stack.old (next_place at) stack.new }
+{
+    stack.replace_by_number(0, n);
+}
+
+/// What a local holds goes on top.
+#[inline(always)]
+pub fn load(code: &RawParts, local: u32, at: Active, stack: &mut TaskStack)
+    requires { Can code.now (does.Load local) at stack.old }
+    ensures { Does code.now (does.Load local) at stack.old (next_place at) stack.new }
+{
+    stack.push_copy(at.base as usize + local as usize);
+}
+
+/// The value on top is taken into a local.
+#[inline(always)]
+pub fn store(code: &RawParts, local: u32, at: Active, stack: &mut TaskStack)
+    requires { Can code.now (does.Store local) at stack.old }
+    ensures { Does code.now (does.Store local) at stack.old (next_place at) stack.new }
+{
+    stack.store_last(at.base as usize + local as usize);
+}
+
+/// The value on top stands there twice.
+#[inline(always)]
+pub fn duplicate(code: &RawParts, at: Active, stack: &mut TaskStack)
+    requires { Can code.now does.Dup at stack.old }
+    ensures { Does code.now does.Dup at stack.old (next_place at) stack.new }
+{
+    let last = stack.count() - 1;
+    stack.push_copy(last);
+}
+
+/// The two values on top change places.
+#[inline(always)]
+pub fn swap(code: &RawParts, at: Active, stack: &mut TaskStack)
+    requires { Can code.now does.Swap at stack.old }
+    ensures { Does code.now does.Swap at stack.old (next_place at) stack.new }
+{
+    stack.swap_last();
+}
+
+/// The value on top is taken off.
+#[inline(always)]
+pub fn drop_last(code: &RawParts, at: Active, stack: &mut TaskStack)
+    requires { Can code.now does.Drop at stack.old }
+    ensures { Does code.now does.Drop at stack.old (next_place at) stack.new }
+{
+    stack.take_off(1);
+}
+
+/// The function goes on at another place.
+#[inline(always)]
+pub fn jump(code: &RawParts, to: u32, at: Active, stack: &TaskStack) -> Active
+    ensures { Does code.now (does.Jump to) at stack.now result stack.now }
+{
+    Active {
+        function: at.function,
+        place: to,
+        base: at.base,
+        rooms: at.rooms,
+    }
+}
+
+/// The INT on top is taken off; where it is 0 the function goes on at another place.
+#[inline(always)]
+pub fn branch(code: &RawParts, to: u32, at: Active, stack: &mut TaskStack) -> Active
+    requires can { Can code.now (does.JumpIfZero to) at stack.old }
+    requires place { at.place + 1 < 2 ^ 32 }
+    ensures { Does code.now (does.JumpIfZero to) at stack.old result stack.new }
+{
+    let n = stack.last_number();
+    stack.take_off(1);
+    if n == 0 {
+        return Active {
+            function: at.function,
+            place: to,
+            base: at.base,
+            rooms: at.rooms,
+        };
+    }
+    at.next()
+}

@@ -1,0 +1,23 @@
+//! The machine that runs the code of a task.
+#![tactic(auto)]
+
+mod act;
+mod active;
+mod arrays;
+mod behind;
+mod calls;
+mod heard;
+mod hot;
+mod machine;
+mod operators;
+mod outcomes;
+mod rare;
+mod request;
+mod run;
+mod went;
+
+pub use active::Active;
+pub use behind::Behind;
+pub use heard::Heard;
+pub use machine::{Pause, TaskMachine};
+pub use went::Went;
