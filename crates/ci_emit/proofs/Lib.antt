@@ -1,0 +1,3 @@
+mod Emitting
+mod Joined
+mod Tables

@@ -1,0 +1,6 @@
+//! A bound project with its code.
+#![tactic(auto)]
+
+mod program;
+
+pub use program::Program;

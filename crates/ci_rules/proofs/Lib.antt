@@ -1,0 +1,6 @@
+mod Fits
+mod Shapes
+mod Expressions
+mod Values
+mod Statements
+mod Whole

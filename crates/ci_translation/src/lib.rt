@@ -1,0 +1,4 @@
+//! The code of a project, and that it does what the project says.
+#![tactic(auto)]
+
+pub mod laws;
