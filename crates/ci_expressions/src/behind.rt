@@ -1,6 +1,6 @@
 //! What has to stand behind a value that was read. These functions are generic so that a value is let go by a call
 //! where nothing of the kind stands there; a tree that a longer function lets go at each of its faults is costly to prove.
-ghost use Rattle.std.specs.Prelude.{◌≡◌, IfOk};
+ghost use Rattle.std.specs.Prelude.{◌≡◌, ◌≢◌, IfOk, IfErr};
 ghost use Rattle.ci_tree.specs.Refused.{is_keyword, is_sign};
 ghost use Rattle.ci_expressions.specs.Gives.{kinds, Gives};
 ghost use Rattle.ci_expressions.specs.Reading as reading;
@@ -13,6 +13,7 @@ use ci_tree::{Keyword, Sign};
 pub fn with_sign<T: Drop>(value: T, here: Cursor, sign: Sign) -> Result<(T, Cursor), ParseFault>
     ensures kept { IfOk result (λ x. x.0 ≡ value) }
     ensures behind { Gives (λ x. (x.1.at, kinds x.1.left.now)) result (reading.expect (is_sign sign) here.entry.at (kinds here.entry.left.now)) }
+    ensures no_memory { IfErr result (λ fault. fault ≢ ParseFault.Memory) }
 {
     let behind = expect_sign(here, sign)?;
     Ok((value, behind))
@@ -26,6 +27,7 @@ pub fn with_keyword<T: Drop>(
 ) -> Result<(T, Cursor), ParseFault>
     ensures kept { IfOk result (λ x. x.0 ≡ value) }
     ensures behind { Gives (λ x. (x.1.at, kinds x.1.left.now)) result (reading.expect (is_keyword keyword) here.entry.at (kinds here.entry.left.now)) }
+    ensures no_memory { IfErr result (λ fault. fault ≢ ParseFault.Memory) }
 {
     let behind = expect_keyword(here, keyword)?;
     Ok((value, behind))

@@ -1,5 +1,5 @@
 //! A place between two tokens, and the readers of one token.
-ghost use Rattle.std.specs.Prelude.{◌≡◌, ℕ, zero, suc, ◌+◌, ◌≤◌, length, [], ◌∷◌, IfOk, MatchOption};
+ghost use Rattle.std.specs.Prelude.{◌≡◌, ℕ, zero, suc, ◌+◌, ◌≤◌, length, [], ◌∷◌, ◌≢◌, IfOk, IfErr, MatchOption};
 ghost use Rattle.ci_base.specs.declared.bounds.TheConstants.{MOST_TOKENS};
 ghost use Rattle.ci_tree.specs.Refused as ask;
 ghost use Rattle.ci_tree.specs.Refused.{is_keyword, is_sign, begins, type_of_token, relation_of_token};
@@ -62,9 +62,10 @@ pub fn is_keyword(kind: &TokenKind, keyword: Keyword) -> bool
     }
 }
 
-/// This sign.
+/// This sign. Takes no memory.
 pub fn expect_sign(here: Cursor, sign: Sign) -> Result<Cursor, ParseFault>
-    ensures { Gives (λ x. (x.at, kinds x.left.now)) result (reading.expect (is_sign sign) here.entry.at (kinds here.entry.left.now)) }
+    ensures read { Gives (λ x. (x.at, kinds x.left.now)) result (reading.expect (is_sign sign) here.entry.at (kinds here.entry.left.now)) }
+    ensures no_memory { IfErr result (λ fault. fault ≢ ParseFault.Memory) }
 {
     let Some((kind, behind)) = next(here) else {
         return Err(ParseFault::UnexpectedEnd);
@@ -76,9 +77,10 @@ pub fn expect_sign(here: Cursor, sign: Sign) -> Result<Cursor, ParseFault>
     }
 }
 
-/// This keyword.
+/// This keyword. Takes no memory.
 pub fn expect_keyword(here: Cursor, keyword: Keyword) -> Result<Cursor, ParseFault>
-    ensures { Gives (λ x. (x.at, kinds x.left.now)) result (reading.expect (is_keyword keyword) here.entry.at (kinds here.entry.left.now)) }
+    ensures read { Gives (λ x. (x.at, kinds x.left.now)) result (reading.expect (is_keyword keyword) here.entry.at (kinds here.entry.left.now)) }
+    ensures no_memory { IfErr result (λ fault. fault ≢ ParseFault.Memory) }
 {
     let Some((kind, behind)) = next(here) else {
         return Err(ParseFault::UnexpectedEnd);
@@ -90,9 +92,10 @@ pub fn expect_keyword(here: Cursor, keyword: Keyword) -> Result<Cursor, ParseFau
     }
 }
 
-/// A number.
+/// A number. Takes no memory.
 pub fn number_at(here: Cursor) -> Result<(i32, Cursor), ParseFault>
-    ensures { Gives (λ x. (x.0, x.1.at, kinds x.1.left.now)) result (reading.number_at here.entry.at (kinds here.entry.left.now)) }
+    ensures read { Gives (λ x. (x.0, x.1.at, kinds x.1.left.now)) result (reading.number_at here.entry.at (kinds here.entry.left.now)) }
+    ensures no_memory { IfErr result (λ fault. fault ≢ ParseFault.Memory) }
 {
     let Some((kind, behind)) = next(here) else {
         return Err(ParseFault::UnexpectedEnd);
@@ -103,9 +106,10 @@ pub fn number_at(here: Cursor) -> Result<(i32, Cursor), ParseFault>
     }
 }
 
-/// Hashes.
+/// Hashes. Takes no memory.
 pub fn hashes_at(here: Cursor) -> Result<(u32, Cursor), ParseFault>
-    ensures { Gives (λ x. (x.0, x.1.at, kinds x.1.left.now)) result (reading.hashes_at here.entry.at (kinds here.entry.left.now)) }
+    ensures read { Gives (λ x. (x.0, x.1.at, kinds x.1.left.now)) result (reading.hashes_at here.entry.at (kinds here.entry.left.now)) }
+    ensures no_memory { IfErr result (λ fault. fault ≢ ParseFault.Memory) }
 {
     let Some((kind, behind)) = next(here) else {
         return Err(ParseFault::UnexpectedEnd);
@@ -144,9 +148,10 @@ pub fn type_of(kind: &TokenKind) -> Option<TypeName>
     }
 }
 
-/// A type's word.
+/// A type's word. Takes no memory.
 pub fn type_at(here: Cursor) -> Result<(TypeName, Cursor), ParseFault>
-    ensures { Gives (λ x. (x.0, x.1.at, kinds x.1.left.now)) result (reading.type_at here.entry.at (kinds here.entry.left.now)) }
+    ensures read { Gives (λ x. (x.0, x.1.at, kinds x.1.left.now)) result (reading.type_at here.entry.at (kinds here.entry.left.now)) }
+    ensures no_memory { IfErr result (λ fault. fault ≢ ParseFault.Memory) }
 {
     let Some((kind, behind)) = next(here) else {
         return Err(ParseFault::UnexpectedEnd);
@@ -172,9 +177,10 @@ fn relation_of(kind: &TokenKind) -> Option<Relation>
     }
 }
 
-/// A relation.
+/// A relation. Takes no memory.
 pub fn relation_at(here: Cursor) -> Result<(Relation, Cursor), ParseFault>
-    ensures { Gives (λ x. (x.0, x.1.at, kinds x.1.left.now)) result (reading.relation_at here.entry.at (kinds here.entry.left.now)) }
+    ensures read { Gives (λ x. (x.0, x.1.at, kinds x.1.left.now)) result (reading.relation_at here.entry.at (kinds here.entry.left.now)) }
+    ensures no_memory { IfErr result (λ fault. fault ≢ ParseFault.Memory) }
 {
     let Some((kind, behind)) = next(here) else {
         return Err(ParseFault::UnexpectedEnd);

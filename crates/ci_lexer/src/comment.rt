@@ -1,5 +1,5 @@
 //! Comments, and the sign `/`.
-ghost use Rattle.std.specs.Prelude.{◌≡◌, ◌+◌, ◌≤◌, ◌≢◌, ℕ, List, ◌∷◌, ◌++◌, [], IfOk, IfErr, IfSome, IfNone, length, false};
+ghost use Rattle.std.specs.Prelude.{◌≡◌, ◌+◌, ◌≤◌, ℕ, List, ◌∷◌, ◌++◌, [], IfOk, IfErr, IfSome, IfNone, length, false};
 ghost use Rattle.ci_base.specs.declared.bounds.TheConstants.{MOST_SOURCE_BYTES};
 ghost use Rattle.ci_tree.specs.Comments.{has_close};
 ghost use Rattle.ci_lexer.specs.Faults.{FaultAt};
@@ -25,12 +25,12 @@ pub fn scan_mark(rest: &[u8]) -> Step<'_>
     }
 }
 
-/// What begins with `/`: a comment or the sign.
+/// What begins with `/`: a comment or the sign. Takes no memory.
 pub fn scan_slash(rest: &[u8], at: u32) -> Result<Step<'_>, LexFault>
     requires lead { Leads Lead.Slash rest.now }
     requires short { at + length rest.now ≤ MOST_SOURCE_BYTES }
     ensures ok { IfOk result (λ step. FrontAt step.front rest.now step.rest.now) }
-    ensures err { IfErr result (λ fault. fault ≢ LexFault.Memory → FaultAt (at + length rest.now) rest.now fault) }
+    ensures err { IfErr result (λ fault. FaultAt (at + length rest.now) rest.now fault) }
 {
     let behind = &rest[1..];
     if begins_with(behind, b'/') {
@@ -61,7 +61,7 @@ fn line_comment<'s>(rest: &'s [u8], body: &'s [u8]) -> Step<'s>
 fn enclosed_comment<'s>(rest: &'s [u8], body: &'s [u8], at: u32) -> Result<Step<'s>, LexFault>
     requires { rest.now ≡ 47 ∷ 42 ∷ body.now }
     ensures ok { IfOk result (λ step. FrontAt step.front rest.now step.rest.now) }
-    ensures err { IfErr result (λ fault. fault ≢ LexFault.Memory → FaultAt (at + length rest.now) rest.now fault) }
+    ensures err { IfErr result (λ fault. FaultAt (at + length rest.now) rest.now fault) }
 {
     match behind_close(body) {
         Some(behind) => Ok(Step {

@@ -1,5 +1,5 @@
 //! Numbers.
-ghost use Rattle.std.specs.Prelude.{◌≡◌, ◌+◌, ◌^◌, ◌<◌, ◌≤◌, ◌≢◌, false, IfOk, IfErr, length, true, MatchOption, ◌++◌};
+ghost use Rattle.std.specs.Prelude.{◌≡◌, ◌+◌, ◌^◌, ◌<◌, ◌≤◌, false, IfOk, IfErr, length, true, MatchOption, ◌++◌};
 ghost use Rattle.ci_lexer.specs.Faults.{FaultAt};
 ghost use Rattle.ci_lexer.specs.Fronts.{FrontAt};
 ghost use Rattle.ci_lexer.specs.Leads.{Leads};
@@ -16,12 +16,12 @@ use crate::step::{Front, Step};
 use ci_literals::{is_hex_digit, is_letter, value_of};
 use ci_tree::TokenKind;
 
-/// A number, behind which no letter and no `_` may stand.
+/// A number, behind which no letter and no `_` may stand. Takes no memory.
 pub fn scan_number(rest: &[u8], at: u32) -> Result<Step<'_>, LexFault>
     requires lead { Leads Lead.Digit rest.now }
     requires short { at + length rest.now ≤ MOST_SOURCE_BYTES }
     ensures ok { IfOk result (λ step. FrontAt step.front rest.now step.rest.now) }
-    ensures err { IfErr result (λ fault. fault ≢ LexFault.Memory → FaultAt (at + length rest.now) rest.now fault) }
+    ensures err { IfErr result (λ fault. FaultAt (at + length rest.now) rest.now fault) }
 {
     if begins_hexadecimal(rest) {
         scan_hexadecimal(rest, at)
@@ -44,7 +44,7 @@ fn scan_hexadecimal(rest: &[u8], at: u32) -> Result<Step<'_>, LexFault>
     requires start { hex_start rest.now ≡ true }
     requires short { at + length rest.now ≤ MOST_SOURCE_BYTES }
     ensures ok { IfOk result (λ step. FrontAt step.front rest.now step.rest.now) }
-    ensures err { IfErr result (λ fault. fault ≢ LexFault.Memory → FaultAt (at + length rest.now) rest.now fault) }
+    ensures err { IfErr result (λ fault. FaultAt (at + length rest.now) rest.now fault) }
 {
     let (digits, behind) = split_run(&rest[2..], Class::HexDigit);
     let value = value_of(digits, 16, u32::MAX);
@@ -56,7 +56,7 @@ fn scan_decimal(rest: &[u8], at: u32) -> Result<Step<'_>, LexFault>
     requires no_start { hex_start rest.now ≡ false }
     requires short { at + length rest.now ≤ MOST_SOURCE_BYTES }
     ensures ok { IfOk result (λ step. FrontAt step.front rest.now step.rest.now) }
-    ensures err { IfErr result (λ fault. fault ≢ LexFault.Memory → FaultAt (at + length rest.now) rest.now fault) }
+    ensures err { IfErr result (λ fault. FaultAt (at + length rest.now) rest.now fault) }
 {
     let (digits, behind) = split_run(rest, Class::Digit);
     let value = value_of(digits, 10, 2_147_483_648);
@@ -78,7 +78,7 @@ fn number<'s>(
     requires value { MatchOption value (number_limit spelled.now < number_value spelled.now) (λ n. (n ≡ number_value spelled.now) × (n ≤ number_limit spelled.now)) }
     requires short { at + length rest.now ≤ MOST_SOURCE_BYTES }
     ensures ok { IfOk result (λ step. FrontAt step.front rest.now step.rest.now) }
-    ensures err { IfErr result (λ fault. fault ≢ LexFault.Memory → FaultAt (at + length rest.now) rest.now fault) }
+    ensures err { IfErr result (λ fault. FaultAt (at + length rest.now) rest.now fault) }
 {
     match value {
         None => Err(LexFault::NumberTooLarge { at }),

@@ -1,5 +1,5 @@
 //! Signs and hashes.
-ghost use Rattle.std.specs.Prelude.{◌≡◌, ◌+◌, ◌<◌, ◌≤◌, ◌≢◌, IfOk, IfErr, IfSome, IfNone, List, ℕ, ◌∷◌, length, slice_index};
+ghost use Rattle.std.specs.Prelude.{◌≡◌, ◌+◌, ◌<◌, ◌≤◌, IfOk, IfErr, IfSome, IfNone, List, ℕ, ◌∷◌, length, slice_index};
 ghost use Rattle.ci_base.specs.declared.bounds.TheConstants.{MOST_SOURCE_BYTES};
 ghost use Rattle.ci_lexer.specs.Faults.{FaultAt};
 ghost use Rattle.ci_lexer.specs.Fronts.{FrontAt};
@@ -15,12 +15,12 @@ use crate::step::{Front, Step};
 use ci_base::bounds::MOST_HASHES;
 use ci_tree::{Sign, TokenKind};
 
-/// One or more `#`.
+/// One or more `#`. Takes no memory.
 pub fn scan_hashes(rest: &[u8], at: u32) -> Result<Step<'_>, LexFault>
     requires lead { Leads Lead.Hash rest.now }
     requires short { at + length rest.now ≤ MOST_SOURCE_BYTES }
     ensures ok { IfOk result (λ step. FrontAt step.front rest.now step.rest.now) }
-    ensures err { IfErr result (λ fault. fault ≢ LexFault.Memory → FaultAt (at + length rest.now) rest.now fault) }
+    ensures err { IfErr result (λ fault. FaultAt (at + length rest.now) rest.now fault) }
 {
     let (hashes, behind) = split_run(rest, Class::Hash);
     if hashes.len() > MOST_HASHES {
@@ -32,12 +32,12 @@ pub fn scan_hashes(rest: &[u8], at: u32) -> Result<Step<'_>, LexFault>
     })
 }
 
-/// A sign other than `/`, or a byte that begins nothing.
+/// A sign other than `/`, or a byte that begins nothing. Takes no memory.
 pub fn scan_sign(rest: &[u8], at: u32) -> Result<Step<'_>, LexFault>
     requires lead { Leads Lead.Other rest.now }
     requires short { at + length rest.now ≤ MOST_SOURCE_BYTES }
     ensures ok { IfOk result (λ step. FrontAt step.front rest.now step.rest.now) }
-    ensures err { IfErr result (λ fault. fault ≢ LexFault.Memory → FaultAt (at + length rest.now) rest.now fault) }
+    ensures err { IfErr result (λ fault. FaultAt (at + length rest.now) rest.now fault) }
 {
     match sign_at(rest) {
         Some((sign, behind)) => Ok(Step {

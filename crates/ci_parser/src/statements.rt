@@ -1,7 +1,7 @@
 //! Statements, by descent. `free` is the number of levels that may still be opened, and `inside` that number
 //! within a construct that has opened one. Where a fault comes behind an expression, `drop` lets it go: what a scope lets
 //! go at its end is written out there, member by member, and is costly to prove.
-ghost use Rattle.std.specs.Prelude.{◌≡◌, suc, ◌++◌, length, map, option_map, option_to_list, IfOk};
+ghost use Rattle.std.specs.Prelude.{◌≡◌, suc, ◌++◌, length, map, option_map, option_to_list, ◌≢◌, IfOk, IfErr};
 ghost use Rattle.ci_tree.specs.declared.token.Keyword.TheVariants.{End};
 ghost use Rattle.ci_tree.specs.Refused.{is_keyword};
 ghost use Rattle.ci_tree.specs.Seen.{expr_of, stmt_of, block_of, clause_of, clauses_of};
@@ -289,6 +289,7 @@ fn counted(
 pub fn ended<T: Drop>(value: T, here: Cursor) -> Result<(T, Cursor), ParseFault>
     ensures kept { IfOk result (λ x. x.0 ≡ value) }
     ensures behind { Gives (λ x. (x.1.at, kinds x.1.left.now)) result (reading.expect (is_keyword End) here.entry.at (kinds here.entry.left.now)) }
+    ensures no_memory { IfErr result (λ fault. fault ≢ ParseFault.Memory) }
 {
     with_keyword(value, here, Keyword::End)
 }

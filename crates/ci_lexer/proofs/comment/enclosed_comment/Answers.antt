@@ -8,5 +8,5 @@ returns-in-Some-clause-ok c =
     enclosed_step c.args.rest.now c.args.body.now c.in-Some.behind.now c.requires c.in-Some.ensures.some
 
 pub returns-in-None-clause-err : goal.returns-in-None-clause-err
-returns-in-None-clause-err c = λ _.
+returns-in-None-clause-err c =
     open_comment c.args.rest.now c.args.at refl (c.args.body.now, c.requires, c.in-None.ensures.none)

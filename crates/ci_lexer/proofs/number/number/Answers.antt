@@ -4,12 +4,12 @@ use Rattle.ci_lexer.proofs.Steps.{number_step, number_fault, run_on_fault}
 use Rattle.ci_lexer.proofs.number.number.Goals as goal
 
 pub returns-in-None-clause-err : goal.returns-in-None-clause-err
-returns-in-None-clause-err c = λ _.
+returns-in-None-clause-err c =
     let large = rw c.in-None.is at c.requires.value in
     number_fault c.args.rest.now c.args.spelled.now c.args.behind.now c.args.at c.requires.whole c.requires.number c.requires.longest large
 
 pub returns-in-Some-clause-err : goal.returns-in-Some-clause-err
-returns-in-Some-clause-err c = λ _.
+returns-in-Some-clause-err c =
     let value = rw c.in-Some.is at c.requires.value in
     run_on_fault c.args.rest.now c.args.spelled.now c.args.behind.now c.args.at c.requires.whole c.requires.number c.requires.longest (omega (arith, value.0, value.1)) (sym c.begins_letter.ensures ∙ c.if-begins_letter.true)
 

@@ -6,4 +6,4 @@ returns-in-Some-clause-ok c =
     sign_step c.args.rest.now c.in-Some.behind.now c.in-Some.sign c.requires.lead c.in-Some.ensures.some
 
 pub returns-in-None-clause-err : goal.returns-in-None-clause-err
-returns-in-None-clause-err c = λ _. stray_fault c.args.rest.now c.args.at c.requires.lead c.in-None.ensures.none
+returns-in-None-clause-err c = stray_fault c.args.rest.now c.args.at c.requires.lead c.in-None.ensures.none
