@@ -57,10 +57,7 @@ impl Lines {
             place,
             limit: due,
         };
-        match self.waiting.push(waiter) {
-            Ok(()) => {}
-            Err(_) => unreachable!(),
-        }
+        self.waiting.push_reserved(waiter);
     }
 
     /// The first in the line of the place leaves it.

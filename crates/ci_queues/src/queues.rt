@@ -96,10 +96,7 @@ impl Queues {
             number,
             name: text.copy(),
         };
-        match self.heads.push(head) {
-            Ok(()) => {}
-            Err(_) => unreachable!(),
-        }
+        self.heads.push_reserved(head);
     }
 
     /// Writes an element: it goes to the first reader in line, or to the end of the queue. Takes no memory.
@@ -224,10 +221,7 @@ impl Queues {
             queue: number,
             item,
         };
-        match self.elements.push(element) {
-            Ok(()) => {}
-            Err(_) => unreachable!(),
-        }
+        self.elements.push_reserved(element);
     }
 
     // The front element leaves its queue.

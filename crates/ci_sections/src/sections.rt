@@ -144,10 +144,7 @@ impl Sections {
             owner: task,
             count: 1,
         };
-        match self.kept.insert(at, section) {
-            Ok(()) => {}
-            Err(_) => unreachable!(),
-        }
+        self.kept.insert(at, section).unwrap();
     }
 
     // The section is owned so often.

@@ -77,10 +77,7 @@ impl Sems {
             name: text.copy(),
             count: 1,
         };
-        match self.kept.push(semaphore) {
-            Ok(()) => {}
-            Err(_) => unreachable!(),
-        }
+        self.kept.push_reserved(semaphore);
         *next = number + 1;
         numbered(number)
     }

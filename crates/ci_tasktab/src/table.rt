@@ -197,14 +197,8 @@ impl TaskTable {
             status: Status::Ready,
             suspended: false,
         };
-        match self.slots.push(slot) {
-            Ok(()) => {}
-            Err(_) => unreachable!(),
-        }
-        match self.live.push(task) {
-            Ok(()) => {}
-            Err(_) => unreachable!(),
-        }
+        self.slots.push_reserved(slot);
+        self.live.push_reserved(task);
         task
     }
 

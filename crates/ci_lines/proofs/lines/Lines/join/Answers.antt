@@ -9,7 +9,7 @@ use Rattle.ci_lines.proofs.lines.Lines.join.Goals as goal
 pub invariant_of-self : goal.invariant_of-self
 invariant_of-self c =
     let before : MOST_LIVE_TASKS ≤ vec_capacity c.self.inside.waiting = c.self.invariant.0 in (
-      omega (arith, before, c.push.ensures.capacity),
-      subst (λ (l : List Waiter). Once l) (sym c.in-Ok.ensures.items)
+      omega (arith, before, c.push_reserved.ensures.capacity),
+      subst (λ (l : List Waiter). Once l) (sym c.push_reserved.ensures.items)
           (once_joined c.self.inside.waiting.items _ c.self.invariant.1 (ap (λ (l : List Waiter). seats c.args.task l) c.self.view_is ∙ c.requires.nowhere)),
     )

@@ -6,7 +6,7 @@ use Rattle.ci_sections.proofs.sections.Sections.own.Goals as goal
 
 pub returns : goal.returns
 returns c =
-    c.in-Ok.ensures.items
+    (rw c.unwrap.ensures at c.insert.ensures.items)
     ∙ ap (λ (name : List ℕ). insert c.self.inside.kept.items c.place_for-at.result (record { name = name; owner = c.args.task; count = 1 })) c.copy.ensures.value
     ∙ ap (λ (l : List Section). insert l c.place_for-at.result (record { name = c.args.text.now; owner = c.args.task; count = 1 })) (sym c.as_slice.ensures.value)
     ∙ c.place_for-at.ensures.place (record { name = c.args.text.now; owner = c.args.task; count = 1 }) refl

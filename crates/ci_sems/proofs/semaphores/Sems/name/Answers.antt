@@ -36,8 +36,8 @@ returns c =
     let few : length c.args.self.now < MOST_OBJECTS = omega (arith, long, c.as_slice.ensures.len, c.len.ensures, c.if-len-ge-MOST_OBJECTS.false) in
     let more : int_eq c.args.next.now last_number ≡ false = sym (rw e at c.is_last.ensures) ∙ c.if-is_last.false in
     let not_last : c.args.next.now ≢ last_number = is_apart c.args.next.now last_number more in
-    name_makes c.args.text.now c.args.mode c.args.next.now c.args.self.now full mode unknown making few _ c.push.new.self.items c.numbered-2.result more
+    name_makes c.args.text.now c.args.mode c.args.next.now c.args.self.now full mode unknown making few _ c.push_reserved.new.self.items c.numbered-2.result more
     (rw e at c.numbered-2.ensures)
-    (c.in-Ok.ensures.items ∙ ap (λ (l : List Semaphore). l ++ record { number = to_z w32 (of_z w32 c.args.next.now); name = c.copy.result; count = 1 } ∷ []) c.self.view_is
+    (c.push_reserved.ensures.items ∙ ap (λ (l : List Semaphore). l ++ record { number = to_z w32 (of_z w32 c.args.next.now); name = c.copy.result; count = 1 } ∷ []) c.self.view_is
     ∙ ap₂ (λ (z : ℤ) (n : List ℕ). c.args.self.now ++ record { number = z; name = n; count = 1 } ∷ []) e c.copy.ensures.value)
     (omega (arith, ints, fits, not_last))
