@@ -1,6 +1,5 @@
 //! Calls: their arguments, one after another, and what is called with them.
 ghost use Rattle.std.specs.Prelude.{◌≡◌, ◌≢◌, ◌<◌, ◌≤◌, ◌++◌, [], ◌∷◌, length, drop, reverse, IfOk, IfSome, IsTrue, MatchOption, OnErr};
-ghost use Rattle.ci_base.specs.Functions.{private_gives};
 ghost use Rattle.ci_tree.specs.Bound as tree;
 ghost use Rattle.ci_tree.specs.LeftOut.{Heads, constant, constants, firsts, left_out};
 ghost use Rattle.ci_tree.specs.SeenBound.{callee_of, call_of, heads_of, project_of};
@@ -15,30 +14,12 @@ use crate::operators::first_of_kind;
 use crate::parts::{Behind, Hand, Targets, Want};
 use crate::stack::{drop_top, push, set_top};
 use crate::tree_task::{TreeMove, TreeTask};
-use ci_base::{Kind, OutOfMemory, PrivateName, Request, SharedName, Text, Value};
+use ci_base::{OutOfMemory, PrivateName, Request, SharedName, Text, Value};
 use ci_builtin::{error_after, goes_on_after, private_value, request_of};
 use ci_tree::Project;
 use ci_tree::bound::{Call, Callee, Param};
 use sqlite_items::Items;
 use std::alloc::Global;
-
-/// The kind of what the private function gives.
-fn kind_given(name: PrivateName) -> Kind
-    ensures { result ≡ private_gives name }
-{
-    match name {
-        PrivateName::StrLeft
-        | PrivateName::StrRight
-        | PrivateName::StrMid
-        | PrivateName::StrUpper
-        | PrivateName::StrLower
-        | PrivateName::StrTrim
-        | PrivateName::StrFill
-        | PrivateName::IntToStr
-        | PrivateName::CharToStr => Kind::Str,
-        _ => Kind::Int,
-    }
-}
 
 /// A private function is called with these values.
 fn call_private(task: &mut TreeTask, name: PrivateName, args: &[Value], passed: bool) -> TreeMove
@@ -59,7 +40,7 @@ fn call_private(task: &mut TreeTask, name: PrivateName, args: &[Value], passed: 
                 if passed {
                     drop_top(&mut task.frame.wants);
                 }
-                given(task, first_of_kind(kind_given(name)))
+                given(task, first_of_kind(name.gives()))
             } else {
                 TreeMove::Asks(Request::End { code })
             }

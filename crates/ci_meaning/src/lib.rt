@@ -21,4 +21,5 @@ mod tree_task;
 mod using;
 
 pub use laws::{always_moves, rooms_stay_small, soon_ticks_or_asks};
+pub use sizes::room;
 pub use tree_task::{TreeMove, TreeTask};
