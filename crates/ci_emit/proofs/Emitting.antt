@@ -4,12 +4,14 @@ use Rattle.std.specs.Prelude.{slice_get}
 use Rattle.ci_base.specs.declared.value.Kind.{Kind}
 use Rattle.ci_base.specs.declared.value.Kind.TheVariants.{Int, Str}
 use Rattle.ci_code.specs.declared.instruction.Instruction.TheVariants as does
-use Rattle.ci_translation.specs.Drafts.{Draft, step, kind_in, links_leave, expr_size, links_size, args_size, expr_code, links_code, args_code}
+use Rattle.ci_translation.specs.Drafts.{Draft, step, links_leave, expr_size, links_size, expr_code, links_code}
 use Rattle.ci_translation.specs.Instructions.{operating, operated, left_kind}
 use Rattle.ci_emit.specs.Pads.{Pad, put_doing, put, wrote, with_step, with_text}
 use Rattle.ci_translation.specs.Drafts.{Doing, push_text, plain}
 use Rattle.ci_tree.specs.Bound as to
-use Rattle.ci_tree.specs.Bound.{Link, links_from, Expr, exprs_from, Stmt, block_from}
+use Rattle.ci_tree.specs.Bound.{Link, links_from, Expr, exprs_from, Stmt, block_from, Param}
+use Rattle.ci_tree.specs.SeenBound.{param_of}
+use Rattle.ci_tree.specs.declared.bound.Param as code_param
 use Rattle.ci_tree.specs.Sound.{Context}
 
 -- two lists, one after the other
@@ -59,3 +61,8 @@ pub get_front : {A : Type 0} (xs ys : List A) (i : ℕ) → i < length xs → sl
 get_front [] ys i h = absurd (omega arith)
 get_front (x ∷ xs) ys zero h = refl
 get_front (x ∷ xs) ys (suc i) h = get_front xs ys i (omega arith)
+
+-- the kinds of parameters
+pub kinds_seen : (ps : List code_param.Param) → map (λ (p : code_param.Param). p.kind) ps ≡ map (λ (p : Param). p.kind) (map param_of ps)
+kinds_seen [] = refl
+kinds_seen (p ∷ ps) = ap (λ l. p.kind ∷ l) (kinds_seen ps)

@@ -171,10 +171,10 @@ texts_alike = lists_alike nat_eq (λ a b. a == b) (λ a b. refl)
 shapes_alike : (x y : List Kind) → pointwise same_kind x y ≡ same_shape x y
 shapes_alike = lists_alike same_kind same_kind (λ a b. refl)
 
-abbrev texts_in : List Draft → List (List ℕ)
+abbrev pub texts_in : List Draft → List (List ℕ)
 texts_in ds = filter_map (λ (d : Draft). text_of d.doing) ds
 
-abbrev befores : List Draft → List (List Kind)
+abbrev pub befores : List Draft → List (List Kind)
 befores ds = map (λ (d : Draft). d.before) ds
 
 text_noted_all : (uses table : List (List ℕ)) → (more : List (List ℕ)) × (fold text_noted table uses ≡ table ++ more)
@@ -261,11 +261,11 @@ cons_both : (o : Option (List ℕ)) (xs ys zs : List (List ℕ)) → zs ≡ xs +
 cons_both (Some t) xs ys zs e = ap (λ l. t ∷ l) e
 cons_both None xs ys zs e = e
 
-texts_both : (xs ys : List Draft) → texts_in (xs ++ ys) ≡ texts_in xs ++ texts_in ys
+pub texts_both : (xs ys : List Draft) → texts_in (xs ++ ys) ≡ texts_in xs ++ texts_in ys
 texts_both [] ys = refl
 texts_both (d ∷ xs) ys = cons_both (text_of d.doing) (texts_in xs) (texts_in ys) (texts_in (xs ++ ys)) (texts_both xs ys)
 
-fold_both : {A B : Type 0} (f : B → A → B) (xs ys : List A) (b : B) → fold f b (xs ++ ys) ≡ fold f (fold f b xs) ys
+pub fold_both : {A B : Type 0} (f : B → A → B) (xs ys : List A) (b : B) → fold f b (xs ++ ys) ≡ fold f (fold f b xs) ys
 fold_both f [] ys b = refl
 fold_both f (x ∷ xs) ys b = fold_both f xs ys (f b x)
 
@@ -330,7 +330,7 @@ index_there (y ∷ xs) (suc i) x d e = index_there xs i x d e
 each_at : {A : Type 0} (P : A → Type 0) (xs : List A) (i : ℕ) (x : A) → All P xs → slice_get xs i ≡ Some x → P x
 each_at P xs i x all e = subst P (index_there xs i x x e) (all i x (slice_get_within xs i x e))
 
-map_alike : {A B : Type 0} (f g : A → B) (xs : List A) → ((i : ℕ) (x : A) → slice_get xs i ≡ Some x → f x ≡ g x) → map f xs ≡ map g xs
+pub map_alike : {A B : Type 0} (f g : A → B) (xs : List A) → ((i : ℕ) (x : A) → slice_get xs i ≡ Some x → f x ≡ g x) → map f xs ≡ map g xs
 map_alike f g [] h = refl
 map_alike f g (x ∷ xs) h = ap (λ y. y ∷ map f xs) (h 0 x refl) ∙ ap (λ ys. g x ∷ ys) (map_alike f g xs (λ i y e. h (suc i) y e))
 

@@ -1,3 +1,13 @@
+mod Emitted
 mod Emitting
+mod InTurn
 mod Joined
+mod Loops
+mod Made
+mod Places
+mod Short
+mod Sizing
+mod Steps
 mod Tables
+mod Texts
+mod Writings

@@ -1,5 +1,5 @@
 -- Tables whose members are seen through a function.
-use Rattle.std.proofs.Common.{◌≡◌, ℕ, suc, ◌+◌, Bool, true, false, not, ◌||◌, nat_lt, ◌<◌, List, length, [], ◌∷◌, ◌++◌, Option, Some, None, refl, sym, ap, ◌∙◌, arith}
+use Rattle.std.proofs.Common.{◌≡◌, ℕ, ◌+◌, Bool, true, false, not, ◌||◌, nat_lt, ◌<◌, List, length, [], ◌∷◌, ◌++◌, Some, None, refl, ap, arith}
 use Rattle.std.specs.Prelude.{map, if◌then◌else◌, position}
 use Rattle.std.specs.List.{prefix_len, position_or_len, list_any}
 use Rattle.indexmap.specs.IndexSet.{insert_key}

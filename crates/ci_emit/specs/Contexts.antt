@@ -10,5 +10,5 @@ abbrev pub heads : ProjectParts → Heads
 heads parts = heads_of parts.functions
 
 -- the project, and the locals and the kind of this function
-abbrev pub context : ProjectParts → Function → Context
+unfoldable pub context : ProjectParts → Function → Context
 context parts f = context_of (project_of parts) (function_of (heads parts) f)

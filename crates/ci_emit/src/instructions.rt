@@ -1,4 +1,4 @@
-//! Which instruction stands for which part of a tree. Numbers are put in words.
+//! Which instruction stands for which part of a tree, with its number in a word.
 ghost use Rattle.std.specs.Prelude.{◌≡◌};
 ghost use Rattle.ci_translation.specs.Instructions as stands;
 ghost use Rattle.ci_translation.specs.Instructions.{operated, left_kind};
@@ -13,7 +13,7 @@ use ci_tree::bound::{Callee, Scalar};
 
 /// The comparison of two values of a kind.
 pub(crate) fn comparing(relation: Relation, kind: Kind) -> Instruction
-    ensures { result ≡ stands.comparing relation kind }
+    ensures { result ≡ in_word (stands.comparing relation kind) }
 {
     match kind {
         Kind::Int => Instruction::CmpInt(relation),
@@ -23,7 +23,7 @@ pub(crate) fn comparing(relation: Relation, kind: Kind) -> Instruction
 
 /// Whether the first of three values of a kind lies from the second to the third.
 pub(crate) fn within(kind: Kind) -> Instruction
-    ensures { result ≡ stands.within kind }
+    ensures { result ≡ in_word (stands.within kind) }
 {
     match kind {
         Kind::Int => Instruction::WithinInt,
@@ -33,7 +33,7 @@ pub(crate) fn within(kind: Kind) -> Instruction
 
 /// An operator between two values of a kind.
 pub(crate) fn operating(operator: Operator, kind: Kind) -> Instruction
-    ensures { result ≡ stands.operating operator kind }
+    ensures { result ≡ in_word (stands.operating operator kind) }
 {
     match operator {
         Operator::Plus => match kind {
@@ -70,7 +70,7 @@ pub(crate) fn operated(operator: Operator, kind: Kind) -> Kind
 
 /// `-` where `minus`, else NOT.
 pub(crate) fn turning(minus: bool) -> Instruction
-    ensures { result ≡ stands.turning minus }
+    ensures { result ≡ in_word (stands.turning minus) }
 {
     if minus {
         Instruction::Neg

@@ -1,13 +1,15 @@
 //! The tables and steps that are put down.
-ghost use Rattle.std.specs.Prelude.{◌≡◌, [], OnOk};
+ghost use Rattle.std.specs.Prelude.{◌≡◌, [], length, map, OnOk};
+ghost use Rattle.ci_emit.specs.Raw.{without_steps};
 ghost use Rattle.ci_emit.specs.Pads.{with_step, with_text};
 
 use crate::table::Table;
 use crate::word::word;
 use ci_base::{Kind, OutOfMemory};
-use ci_code::{Instruction, Step};
+use ci_code::{Instruction, Step, StepList};
 use std::alloc::Global;
 use std::marker::Model;
+use std::mem::replace;
 
 /// The tables of a project's code, and the steps of the function at hand. Contracts see the three lists.
 #[derive(Drop)]
@@ -37,6 +39,35 @@ impl Pad {
             shapes: Table::empty(alloc),
             steps: Vec::new(alloc),
         }
+    }
+
+    /// The texts of the tables.
+    pub(crate) fn texts(&self) -> &[Vec<u8>]
+        ensures { map (λ text. text.items) result.now ≡ self.now.texts }
+    {
+        self.texts.lists()
+    }
+
+    /// The shapes of the tables.
+    pub(crate) fn shapes(&self) -> &[Vec<Kind>]
+        ensures { map (λ shape. shape.items) result.now ≡ self.now.shapes }
+    {
+        self.shapes.lists()
+    }
+
+    /// The steps, and none are left.
+    pub(crate) fn take_steps(&mut self) -> StepList
+        ensures steps { result ≡ self.old.steps }
+        ensures left { self.new ≡ without_steps self.old }
+    {
+        StepList::of(replace(&mut self.steps, Vec::new(self.alloc)))
+    }
+
+    /// The place of what comes next.
+    pub(crate) fn place(&self) -> usize
+        ensures { result ≡ length self.now.steps }
+    {
+        self.steps.len()
     }
 
     /// Puts down an instruction, over operands of these kinds.

@@ -1,5 +1,5 @@
 //! Tables of lists, each once, in the order in which they came first.
-ghost use Rattle.std.specs.Prelude.{◌≡◌, [], IfOk, OnOk};
+ghost use Rattle.std.specs.Prelude.{◌≡◌, [], map, IfOk, OnOk};
 ghost use Rattle.std.specs.List.{position_or_len};
 ghost use Rattle.std.specs.Cmp.Lexicographic.{pointwise};
 ghost use Rattle.indexmap.specs.IndexSet.{insert_key};
@@ -32,6 +32,13 @@ impl<T: Copy + Eq + Hash> Table<T> {
         Table {
             kept: IndexSet::new(alloc),
         }
+    }
+
+    /// The lists.
+    pub(crate) fn lists(&self) -> &[Vec<T>]
+        ensures { map (λ list. list.items) result.now ≡ self.now }
+    {
+        self.kept.as_slice()
     }
 
     /// The number of the list, which is noted where it isn't there.

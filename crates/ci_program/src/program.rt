@@ -8,7 +8,7 @@ use ci_code::RawCode;
 use ci_rules::laws::translation_keeps_rules;
 use ci_translation::laws::translation_simulates;
 use ci_tree::Project;
-use ci_verify::{Verified, verify};
+use ci_verify::Verified;
 use std::marker::Model;
 
 /// A bound project with its code, which is its translation, breaks no rule, and does what the project says: a task on it makes the
@@ -35,7 +35,8 @@ impl Model for Program {
 }
 
 impl Program {
-    /// The program of a project, of which this is the translation. Takes no memory; verifies the code once.
+    /// The program of a project, of which this is the translation. Takes no memory. The code isn't verified anew, since a translation
+    /// is known to break no rule.
     pub fn of(project: Project, code: RawCode) -> Program
         requires { code ≡ translation (project_of project) }
         ensures { result ≡ project }
@@ -43,10 +44,8 @@ impl Program {
         let _parts = project.parts();
         translation_simulates();
         translation_keeps_rules();
-        match verify(code) {
-            Ok(code) => Program { project, code },
-            Err(_) => unreachable!(),
-        }
+        let code = Verified::of(code);
+        Program { project, code }
     }
 
     /// Its project.

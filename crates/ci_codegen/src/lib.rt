@@ -1,0 +1,6 @@
+//! The generator: from a bound project to its program.
+#![tactic(auto)]
+
+mod generator;
+
+pub use generator::generate;
