@@ -1,9 +1,10 @@
 -- What comes of operands.
-use Rattle.std.proofs.Common.{◌≡◌, ℕ, ◌+◌, ◌-◌, ◌<◌, ◌≤◌, ℤ, pos, negsuc, true, false, cond, List, [], ◌∷◌, ◌++◌, length, take, drop, reverse, Option, Some, None, Ok, Err, refl, sym, ap, ◌∙◌, subst, arith, length-append}
-use Rattle.std.specs.Prelude.{slice_get}
+use Rattle.std.proofs.Common.{◌≡◌, ℕ, ◌+◌, ◌-◌, ◌<◌, ◌≤◌, ℤ, pos, negsuc, Bool, true, false, cond, List, [], ◌∷◌, ◌++◌, length, take, drop, reverse, Option, Some, None, Ok, Err, refl, sym, ap, ◌∙◌, subst, arith, length-append, append_assoc}
+use Rattle.std.specs.Prelude.{slice_get, nat_le}
 use Rattle.std.proofs.lemmas.List.{length-reverse, reverse-reverse, take-append-drop}
-use Rattle.ci_base.specs.declared.bounds.TheConstants.{MOST_ROOM}
-use Rattle.ci_base.specs.declared.errors.TheConstants.{BAD_INDEX}
+use Rattle.ci_stack.proofs.Topping.{at, same_value}
+use Rattle.ci_base.specs.declared.bounds.TheConstants.{MOST_ROOM, MOST_TEXT_BYTES}
+use Rattle.ci_base.specs.declared.errors.TheConstants.{BAD_INDEX, TEXT_TOO_LONG}
 use Rattle.ci_base.specs.declared.function.PrivateName.{PrivateName}
 use Rattle.ci_base.specs.declared.function.PrivateName.TheVariants as names
 use Rattle.ci_base.specs.declared.function.SharedName.{SharedName}
@@ -26,7 +27,7 @@ use Rattle.ci_code.specs.declared.instruction.Instruction.TheVariants as does
 use Rattle.ci_code.specs.declared.raw.Cells.{Cells}
 use Rattle.ci_code.specs.declared.raw.RawParts.{RawParts}
 use Rattle.ci_code.specs.Machine.{act, compared, read, written, read_cell, read_at, write_cell, write_in, write_at, ints_within, texts_within, computed}
-use Rattle.ci_code.specs.Moves.{Machine, Move, on, came, failed_if, one, one_int, two_ints, two_texts, only_if, is_of, cell_in}
+use Rattle.ci_code.specs.Moves.{Machine, Move, on, came, failed_if, one, one_int, two_ints, two_texts, only_if, several, is_of, cell_in}
 use Rattle.ci_task.specs.declared.active.Active.{Active}
 use Rattle.ci_task.specs.declared.heard.Heard.{Heard}
 use Rattle.ci_task.specs.declared.went.Went.{Went}
@@ -153,6 +154,108 @@ operator_does code what a values values' taken heard heard' w h are did = λ cal
     came_leads code what a callers values values' heard heard' s (given_by what) t.args t.rest t.operands (operated what t.args) w t.move
     (subst (λ n. Came n (given_by what) (operated what t.args) values heard w values' heard') (sym t.many)
     (subst (λ (l : List Value). Came (taken_by what) (given_by what) (operated what l) values heard w values' heard') same did))
+
+-- what is left over in a division
+
+pub mod_can : (code : RawParts) (a : Active) (values : List Value) (heard : Heard) → CanHeard code does.Mod a values heard → ((low : List Value) × (n : ℤ) × (values ≡ low ++ Int n ∷ [])) × ((low : List Value) × (n : ℤ) × (v : Value) × (values ≡ low ++ Int n ∷ v ∷ [])) × (2 ≤ length values)
+mod_can code a values heard can =
+    let m : Machine = spelled code a can.0 values heard in
+    let t = whole_there remainder m.top.operands m can.2 in
+    let split : values ≡ (take (floor code a) values ++ reverse t.2) ++ Int t.0 ∷ Int t.1 ∷ [] = below (floor code a) values (Int t.1 ∷ Int t.0 ∷ []) t.2 t.3 in (
+      ((take (floor code a) values ++ reverse t.2) ++ Int t.0 ∷ [], t.1, split ∙ sym (append_assoc (take (floor code a) values ++ reverse t.2) (Int t.0 ∷ []) (Int t.1 ∷ []))),
+      (take (floor code a) values ++ reverse t.2, t.0, Int t.1, split),
+      omega (arith, ap (λ (l : List Value). length l) split, length-append (take (floor code a) values ++ reverse t.2) (Int t.0 ∷ Int t.1 ∷ [])),
+    )
+
+pub mod_does : (code : RawParts) (a : Active) (values values' : List Value) (heard : Heard) (x y r : ℤ) → ((low : List Value) (n : ℤ) → values ≡ low ++ Int n ∷ [] → y ≡ n) → ((low : List Value) (n : ℤ) (v : Value) → values ≡ low ++ Int n ∷ v ∷ [] → x ≡ n) → remainder x y ≡ Ok (Int r) → Replaces 2 values (Int r) values' → DoesHeard code does.Mod a values heard went.On values' heard
+mod_does code a values values' heard x y r is_y is_x gave did = λ callers s room.
+    let m : Machine = spelled code a callers values heard in
+    let t = whole_there remainder m.top.operands m room in
+    let split : values ≡ (take (floor code a) values ++ reverse t.2) ++ Int t.0 ∷ Int t.1 ∷ [] = below (floor code a) values (Int t.1 ∷ Int t.0 ∷ []) t.2 t.3 in
+    let first : x ≡ t.0 = is_x (take (floor code a) values ++ reverse t.2) t.0 (Int t.1) split in
+    let second : y ≡ t.1 = is_y ((take (floor code a) values ++ reverse t.2) ++ Int t.0 ∷ []) t.1 (split ∙ sym (append_assoc (take (floor code a) values ++ reverse t.2) (Int t.0 ∷ []) (Int t.1 ∷ []))) in
+    let value : remainder t.0 t.1 ≡ Ok (Int r) = ap (λ (z : ℤ). remainder z t.1) (sym first) ∙ ap (λ (z : ℤ). remainder x z) (sym second) ∙ gave in
+    came_leads code does.Mod a callers values values' heard heard s kinds.Int (Int t.0 ∷ Int t.1 ∷ []) t.2 t.3 (Ok (Int r)) went.On
+    (ap (λ (l : List Value). two_ints remainder l m) t.3 ∙ ap (λ (o : Outcome). came kinds.Int o t.2 m) value)
+    (refl, refl, did)
+
+-- two texts
+
+pub texts_can : (code : RawParts) (what : Instruction) (kind : Kind) (work : List ℕ → List ℕ → Outcome) (a : Active) (values : List Value) (heard : Heard) → ((m : Machine) → act code what m ≡ two_texts kind work m.top.operands m) → CanHeard code what a values heard → (low : List Value) × (x : List ℕ) × (y : List ℕ) × (values ≡ low ++ Str x ∷ Str y ∷ [])
+texts_can code what kind work a values heard is can =
+    let m : Machine = spelled code a can.0 values heard in
+    let t = texts_there kind work m.top.operands m (subst HasRoom (is m) can.2) in
+    (take (floor code a) values ++ reverse t.2, t.0, t.1, below (floor code a) values (Str t.1 ∷ Str t.0 ∷ []) t.2 t.3)
+
+pub texts_do : (code : RawParts) (what : Instruction) (kind : Kind) (work : List ℕ → List ℕ → Outcome) (a : Active) (values values' : List Value) (heard heard' : Heard) (w : Went) (x y : List ℕ) → ((m : Machine) → act code what m ≡ two_texts kind work m.top.operands m) → ((low : List Value) (s : List ℕ) (v : Value) → values ≡ low ++ Str s ∷ v ∷ [] → x ≡ s) → ((low : List Value) (s : List ℕ) → values ≡ low ++ Str s ∷ [] → y ≡ s) → Came 2 kind (work x y) values heard w values' heard' → DoesHeard code what a values heard w values' heard'
+texts_do code what kind work a values values' heard heard' w x y is is_x is_y did = λ callers s room.
+    let m : Machine = spelled code a callers values heard in
+    let t = texts_there kind work m.top.operands m (subst HasRoom (is m) room) in
+    let low : List Value = take (floor code a) values ++ reverse t.2 in
+    let split : values ≡ low ++ Str t.0 ∷ Str t.1 ∷ [] = below (floor code a) values (Str t.1 ∷ Str t.0 ∷ []) t.2 t.3 in
+    let first : x ≡ t.0 = is_x low t.0 (Str t.1) split in
+    let second : y ≡ t.1 = is_y (low ++ Str t.0 ∷ []) t.1 (split ∙ sym (append_assoc low (Str t.0 ∷ []) (Str t.1 ∷ []))) in
+    came_leads code what a callers values values' heard heard' s kind (Str t.0 ∷ Str t.1 ∷ []) t.2 t.3 (work t.0 t.1) w
+    (is m ∙ ap (λ (l : List Value). two_texts kind work l m) t.3)
+    (subst (λ (l : List ℕ). Came 2 kind (work l t.1) values heard w values' heard') first
+    (subst (λ (l : List ℕ). Came 2 kind (work x l) values heard w values' heard') second did))
+
+-- a text that was read is the one that stands there
+pub text_is : (values low more : List Value) (n : ℕ) (x s : List ℕ) → slice_get values n ≡ Some (Str x) → values ≡ low ++ Str s ∷ more → n ≡ length low → x ≡ s
+text_is values low more n x s f e h = same_letters x s (sym f ∙ at values low more (Str s) n e h)
+  where
+    same_letters : (u v : List ℕ) → Some (Str u) ≡ Some (Str v) → u ≡ v
+    same_letters u v g = cc g
+
+-- whether both texts are as long as one may be
+
+pub joined_long : (x y : List ℕ) → MOST_TEXT_BYTES < length x + length y → joined x y ≡ Err TEXT_TOO_LONG
+joined_long x y h = by (nat_le (length (x ++ y)) MOST_TEXT_BYTES) refl
+  where
+    by : (b : Bool) → nat_le (length (x ++ y)) MOST_TEXT_BYTES ≡ b → cond b (Ok (Str (x ++ y))) (Err TEXT_TOO_LONG) ≡ Err TEXT_TOO_LONG
+    by true e = absurd (grind (arith, e, h, length-append x y))
+    by false e = refl
+
+pub joined_short : (x y : List ℕ) → length x + length y ≤ MOST_TEXT_BYTES → joined x y ≡ Ok (Str (x ++ y))
+joined_short x y h = by (nat_le (length (x ++ y)) MOST_TEXT_BYTES) refl
+  where
+    by : (b : Bool) → nat_le (length (x ++ y)) MOST_TEXT_BYTES ≡ b → cond b (Ok (Str (x ++ y))) (Err TEXT_TOO_LONG) ≡ Ok (Str (x ++ y))
+    by true e = refl
+    by false e = absurd (grind (arith, e, h, length-append x y))
+
+-- a text and two INTs
+
+part_there : (go : List Value → List Value → Move) (operands : List Value) → HasRoom (several (kinds.Str ∷ kinds.Int ∷ kinds.Int ∷ []) go operands) → (x : List ℕ) × (n : ℤ) × (k : ℤ) × (rest : List Value) × (operands ≡ Int k ∷ Int n ∷ Str x ∷ rest)
+part_there go (Int k ∷ Int n ∷ Str x ∷ rest) room = (x, n, k, rest, refl)
+part_there go (Int k ∷ Int n ∷ Int x ∷ rest) room = absurd room
+part_there go (Int k ∷ Str n ∷ Str x ∷ rest) room = absurd room
+part_there go (Int k ∷ Str n ∷ Int x ∷ rest) room = absurd room
+part_there go (Str k ∷ Int n ∷ Str x ∷ rest) room = absurd room
+part_there go (Str k ∷ Int n ∷ Int x ∷ rest) room = absurd room
+part_there go (Str k ∷ Str n ∷ Str x ∷ rest) room = absurd room
+part_there go (Str k ∷ Str n ∷ Int x ∷ rest) room = absurd room
+part_there go (a ∷ b ∷ []) room = absurd (omega (arith, (several_there (kinds.Str ∷ kinds.Int ∷ kinds.Int ∷ []) go (a ∷ b ∷ []) room).0))
+part_there go (a ∷ []) room = absurd (omega (arith, (several_there (kinds.Str ∷ kinds.Int ∷ kinds.Int ∷ []) go (a ∷ []) room).0))
+part_there go [] room = absurd (omega (arith, (several_there (kinds.Str ∷ kinds.Int ∷ kinds.Int ∷ []) go [] room).0))
+
+pub part_can : (code : RawParts) (a : Active) (values : List Value) (heard : Heard) → CanHeard code (does.Private names.StrMid) a values heard → (low : List Value) × (x : List ℕ) × (n : ℤ) × (k : ℤ) × (values ≡ low ++ Str x ∷ Int n ∷ Int k ∷ [])
+part_can code a values heard can =
+    let m : Machine = spelled code a can.0 values heard in
+    let go : List Value → List Value → Move = λ args operands. computed names.StrMid args (private_value m.error names.StrMid args) operands m in
+    let t = part_there go m.top.operands can.2 in
+    (take (floor code a) values ++ reverse t.3, t.0, t.1, t.2, below (floor code a) values (Int t.2 ∷ Int t.1 ∷ Str t.0 ∷ []) t.3 t.4)
+
+-- three values that were read are the ones on top
+pub three_are : (values : List Value) (u v w : Value) (count : ℕ) → count ≡ length values → slice_get values (count - 3) ≡ Some u → slice_get values (count - 2) ≡ Some v → slice_get values (count - 1) ≡ Some w → (low high : List Value) → values ≡ low ++ high → length high ≡ 3 → u ∷ v ∷ w ∷ [] ≡ high
+three_are values u v w count e f g h low (x ∷ y ∷ z ∷ []) split many =
+    let long : length values ≡ length low + 3 = ap (λ (l : List Value). length l) split ∙ length-append low (x ∷ y ∷ z ∷ []) in
+    let two : length (low ++ x ∷ []) ≡ length low + 1 = length-append low (x ∷ []) in
+    let three : length (low ++ x ∷ y ∷ []) ≡ length low + 2 = length-append low (x ∷ y ∷ []) in
+    let first : u ≡ x = same_value u x (sym f ∙ at values low (y ∷ z ∷ []) x (count - 3) split (omega arith)) in
+    let second : v ≡ y = same_value v y (sym g ∙ at values (low ++ x ∷ []) (z ∷ []) y (count - 2) (split ∙ sym (append_assoc low (x ∷ []) (y ∷ z ∷ []))) (omega arith)) in
+    let third : w ≡ z = same_value w z (sym h ∙ at values (low ++ x ∷ y ∷ []) [] z (count - 1) (split ∙ sym (append_assoc low (x ∷ y ∷ []) (z ∷ []))) (omega arith)) in
+    ap (λ (r : Value). r ∷ v ∷ w ∷ []) first ∙ ap (λ (r : Value). x ∷ r ∷ w ∷ []) second ∙ ap (λ (r : Value). x ∷ y ∷ r ∷ []) third
+three_are values u v w count e f g h low _ split many = absurd (omega arith)
 
 -- The private functions
 

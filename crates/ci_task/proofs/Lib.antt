@@ -1,3 +1,4 @@
+pub mod Orders
 pub mod Operands
 pub mod Acts
 pub mod Calling

@@ -45,6 +45,10 @@ IsAskedBy (does.WriteAt a) q = (c : ℕ) × (v : Value) × (q ≡ Write c v)
 IsAskedBy (does.Ask name) q = Unit {0}
 IsAskedBy _ q = ⊥
 
+-- a function that runs, by its parts
+abbrev pub active : ℕ → ℕ → ℕ → ℕ → Active
+active function place base rooms = record { function = function; place = place; base = base; rooms = rooms }
+
 -- at the next place
 abbrev pub next_place : Active → Active
 next_place a = record a { place = a.place + 1 }

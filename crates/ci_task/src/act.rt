@@ -1,16 +1,17 @@
 //! One instruction.
-ghost use Rattle.std.specs.Prelude.{◌≡◌, ◌+◌, ◌<◌, ◌≤◌, ◌^◌, reverse, slice_get, Some};
+ghost use Rattle.std.specs.Prelude.{◌≡◌, ◌+◌, ◌<◌, ◌≤◌, ◌^◌, length, reverse, slice_get, Some};
 ghost use Rattle.std.specs.Vec.{vec_capacity};
 ghost use Rattle.ci_base.specs.declared.bounds.TheConstants.{MOST_ROOM};
 ghost use Rattle.ci_code.specs.Code.{IsCode};
+ghost use Rattle.ci_code.specs.Machine.{instruction_in};
 ghost use Rattle.ci_verify.specs.Rules.{NoneBroken};
 ghost use Rattle.ci_task.specs.Going.{CanNow, Leads};
 
 use crate::active::Active;
 use crate::calls::{call, give};
 use crate::heard::Heard;
-use crate::hot::{branch, drop_last, duplicate, jump, load, push_int, store, two_ints};
-use crate::rare::rare;
+use crate::hot::{branch, drop_last, duplicate, jump, load, modulo, push_int, store, two_ints};
+use crate::rare::rare_at;
 use crate::went::Went;
 use ci_code::{Instruction, RawFunction, RawParts};
 use ci_stack::TaskStack;
@@ -28,6 +29,8 @@ pub fn act(
 ) -> (Went, Active)
     requires can { CanNow code.now what at (reverse callers.old.items) stack.old heard.old }
     requires here { slice_get code.now.functions at.function ≡ Some function.now }
+    requires within { at.place < length function.now.steps }
+    requires there { instruction_in (Some function.now) at.place ≡ Some what }
     requires code { IsCode code.now }
     requires sound { NoneBroken code.now }
     requires place { at.place + 1 < 2 ^ 32 }
@@ -59,6 +62,10 @@ pub fn act(
             two_ints(code, Instruction::Sub, at, stack);
             (Went::On, next)
         }
+        Instruction::Mod => {
+            let went = modulo(code, function, at, stack, heard);
+            (went, at.after(went))
+        }
         Instruction::CmpInt(relation) => {
             two_ints(code, Instruction::CmpInt(relation), at, stack);
             (Went::On, next)
@@ -76,7 +83,16 @@ pub fn act(
         Instruction::Call(number) => call(code, number, at, callers, stack, heard),
         Instruction::Return => give(code, function, at, callers, stack, heard),
         _ => {
-            let went = rare(code, what, at, stack, heard);
+            let went = rare_at(
+                code,
+                function,
+                at.function,
+                at.place,
+                at.base,
+                at.rooms,
+                stack,
+                heard,
+            );
             (went, at.after(went))
         }
     }

@@ -1,16 +1,22 @@
 //! The instructions that are met most.
-ghost use Rattle.std.specs.Prelude.{◌≡◌, ◌+◌, ◌<◌, ◌^◌, true};
+ghost use Rattle.std.specs.Prelude.{◌≡◌, ◌+◌, ◌<◌, ◌^◌, true, pos, length, Ok, Some};
+ghost use Rattle.ci_base.specs.Arithmetic.{remainder};
+ghost use Rattle.ci_base.specs.declared.value.Value.TheVariants.{Int};
+ghost use Rattle.ci_code.specs.Machine.{instruction_in};
 ghost use Rattle.ci_code.specs.declared.instruction.Instruction.TheVariants as does;
-ghost use Rattle.ci_task.specs.Going.{next_place, Can, Does};
+ghost use Rattle.ci_task.specs.Going.{next_place, Can, Does, CanHeard, DoesHeard};
 ghost use Rattle.ci_task.specs.Operators.{is_whole};
 ghost use Rattle.ci_task.specs.Operators as operators;
 
 use crate::active::Active;
+use crate::heard::Heard;
+use crate::rare::rare_at;
+use crate::relations::compared;
+use crate::went::Went;
 use ci_builtin::{
-    common_bits, conjunction, difference, differing_bits, disjunction, joint_bits, product,
-    relates, sum, truth,
+    common_bits, conjunction, difference, differing_bits, disjunction, joint_bits, product, sum,
 };
-use ci_code::{Instruction, RawParts};
+use ci_code::{Instruction, RawFunction, RawParts};
 use ci_stack::TaskStack;
 
 /// The INT that an instruction makes of two.
@@ -28,7 +34,7 @@ fn whole(what: Instruction, a: i32, b: i32) -> i32
         Instruction::BitAnd => common_bits(a, b),
         Instruction::BitOr => joint_bits(a, b),
         Instruction::BitXor => differing_bits(a, b),
-        Instruction::CmpInt(relation) => truth(relates(relation, a.cmp(&b))),
+        Instruction::CmpInt(relation) => compared(relation, a, b),
         _ => unreachable!(),
     }
 }
@@ -44,6 +50,48 @@ pub fn two_ints(code: &RawParts, what: Instruction, at: Active, stack: &mut Task
     let low = stack.second_number();
     let result = whole(what, low, high);
     stack.replace_by_number(2, result);
+}
+
+/// What is left of an INT that is divided by another one, which isn't 0.
+#[inline(always)]
+fn left_over(a: i32, b: i32) -> i32
+    requires { (b ≡ pos 0) → ⊥ }
+    ensures { remainder a b ≡ Ok (Int result) }
+{
+    a.wrapping_rem(b)
+}
+
+/// Two INTs give place to what is left of the first divided by the second. Where the second is 0, that is a run error.
+#[inline(always)]
+pub fn modulo(
+    code: &RawParts,
+    function: &RawFunction,
+    at: Active,
+    stack: &mut TaskStack,
+    heard: &mut Heard,
+) -> Went
+    requires can { CanHeard code.now does.Mod at stack.old heard.old }
+    requires within { at.place < length function.now.steps }
+    requires there { instruction_in (Some function.now) at.place ≡ Some does.Mod }
+    ensures { DoesHeard code.now does.Mod at stack.old heard.old result stack.new heard.new }
+{
+    let divisor = stack.last_number();
+    if divisor == 0 {
+        return rare_at(
+            code,
+            function,
+            at.function,
+            at.place,
+            at.base,
+            at.rooms,
+            stack,
+            heard,
+        );
+    }
+    let dividend = stack.second_number();
+    let _count = stack.count();
+    stack.replace_by_number(2, left_over(dividend, divisor));
+    Went::On
 }
 
 /// An INT goes on top.

@@ -12,8 +12,10 @@ mod machine;
 mod operators;
 mod outcomes;
 mod rare;
+mod relations;
 mod request;
 mod run;
+mod texts;
 mod went;
 
 pub use active::Active;

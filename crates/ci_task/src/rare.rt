@@ -1,18 +1,22 @@
 //! The instructions that are met less.
 ghost use Rattle.std.specs.Prelude.{◌≡◌, ◌+◌, ◌<◌, Some, slice_get, length, true, false};
+ghost use Rattle.ci_code.specs.declared.instruction.Instruction.{Instruction as Does};
 ghost use Rattle.ci_code.specs.declared.instruction.Instruction.TheVariants as does;
+ghost use Rattle.ci_code.specs.Machine.{instruction_in};
 ghost use Rattle.ci_task.specs.Operators as operators;
 ghost use Rattle.ci_task.specs.declared.went.Went.TheVariants.{On};
-ghost use Rattle.ci_task.specs.Going.{next_place, Can, Does, CanHeard, DoesHeard, is_straight};
+ghost use Rattle.ci_task.specs.Going.{next_place, active, Can, Does as Leaves, CanHeard, DoesHeard, is_straight};
 
 use crate::active::Active;
 use crate::arrays::{read_at, write_at};
 use crate::heard::Heard;
 use crate::hot::{drop_last, duplicate, load, push_int, store, swap, two_ints};
 use crate::operators::{compute, operate};
+use crate::run::instruction_of;
+use crate::texts::{compare, join, take_part};
 use crate::went::Went;
-use ci_base::{Text, Value};
-use ci_code::{Instruction, RawParts};
+use ci_base::{PrivateName, Text, Value};
+use ci_code::{Instruction, RawFunction, RawParts};
 use ci_stack::TaskStack;
 
 /// The text of this number.
@@ -26,7 +30,7 @@ fn text_at(code: &RawParts, number: u32) -> &Text
 /// A text of the code goes on top.
 fn push_text(code: &RawParts, number: u32, at: Active, stack: &mut TaskStack)
     requires { Can code.now (does.PushStr number) at stack.old }
-    ensures { Does code.now (does.PushStr number) at stack.old (next_place at) stack.new }
+    ensures { Leaves code.now (does.PushStr number) at stack.old (next_place at) stack.new }
 {
     let text = text_at(code, number);
     stack.replace_by(0, &Value::Str(text.copy()));
@@ -86,8 +90,33 @@ fn is_operator(what: Instruction) -> bool
 }
 
 /// What an instruction does that goes on at the next place, and is met less.
-#[inline(never)]
-pub fn rare(
+fn rare(
+    code: &RawParts,
+    what: Instruction,
+    at: Active,
+    stack: &mut TaskStack,
+    heard: &mut Heard,
+) -> Went
+    requires straight { is_straight what ≡ true }
+    requires can { CanHeard code.now what at stack.old heard.old }
+    ensures { DoesHeard code.now what at stack.old heard.old result stack.new heard.new }
+{
+    match what {
+        Instruction::Cat => join(code, at, stack, heard),
+        Instruction::CmpStr(relation) => {
+            compare(code, relation, at, stack, heard);
+            Went::On
+        }
+        Instruction::Private(PrivateName::StrMid) => {
+            take_part(code, at, stack, heard);
+            Went::On
+        }
+        _ => plain(code, what, at, stack, heard),
+    }
+}
+
+/// The same over values of their own.
+fn plain(
     code: &RawParts,
     what: Instruction,
     at: Active,
@@ -106,6 +135,36 @@ pub fn rare(
         return operate(code, what, at, stack, heard);
     }
     other(code, what, at, stack, heard)
+}
+
+/// The same of the instruction at a place of a function.
+///
+/// What runs is handed over in parts, and not as an instruction and an active function: those would be passed by their places,
+/// so they would have to be written there ahead of every instruction, whichever it is.
+#[inline(never)]
+pub fn rare_at(
+    code: &RawParts,
+    function: &RawFunction,
+    number: u32,
+    place: u32,
+    base: u32,
+    rooms: u32,
+    stack: &mut TaskStack,
+    heard: &mut Heard,
+) -> Went
+    requires within { place < length function.now.steps }
+    requires straight { (what : Does) → instruction_in (Some function.now) place ≡ Some what → is_straight what ≡ true }
+    requires can { (what : Does) → instruction_in (Some function.now) place ≡ Some what → CanHeard code.now what (active number place base rooms) stack.old heard.old }
+    ensures { (what : Does) → instruction_in (Some function.now) place ≡ Some what → DoesHeard code.now what (active number place base rooms) stack.old heard.old result stack.new heard.new }
+{
+    let what = instruction_of(function, place);
+    let at = Active {
+        function: number,
+        place,
+        base,
+        rooms,
+    };
+    rare(code, what, at, stack, heard)
 }
 
 /// The same of an instruction that is no operator.

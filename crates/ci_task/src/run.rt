@@ -54,6 +54,25 @@ fn capped(count: u64) -> u64
     }
 }
 
+/// The function in which the run goes on, which mostly is the one that it was in.
+#[inline(always)]
+fn running<'a>(
+    code: &'a RawParts,
+    function: &'a RawFunction,
+    at: Active,
+    to: Active,
+) -> &'a RawFunction
+    requires here { slice_get code.now.functions at.function ≡ Some function.now }
+    requires there { to.function < length code.now.functions }
+    ensures { slice_get code.now.functions to.function ≡ Some result.now }
+{
+    if to.function == at.function {
+        function
+    } else {
+        function_at(code, to.function)
+    }
+}
+
 /// The run stops there.
 #[inline(always)]
 fn stopped(at: Active, used: u32, count: u64, went: Went) -> Stop
@@ -90,14 +109,15 @@ pub fn go(
     ensures capacity { MOST_ROOM ≤ vec_capacity callers.new }
 {
     let mut at = from;
+    let mut function = function_at(code, from.function);
     let mut used = 0u32;
     let mut count = before;
     'run: loop {
-        let function = function_at(code, at.function);
         let what = instruction_of(function, at.place);
         let (went, to) = act(code, function, what, at, callers, stack, heard);
         match went {
             Went::On => {
+                function = running(code, function, at, to);
                 at = to;
                 count += 1;
             }

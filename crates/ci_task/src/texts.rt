@@ -1,0 +1,107 @@
+//! The instructions on texts that are met most: they read the texts where they stand.
+ghost use Rattle.std.specs.Prelude.{◌≡◌, ◌+◌, ◌≤◌, ◌++◌, length};
+ghost use Rattle.ci_base.specs.TextFunctions as functions;
+ghost use Rattle.ci_base.specs.declared.bounds.TheConstants.{MOST_TEXT_BYTES};
+ghost use Rattle.ci_base.specs.declared.function.PrivateName.TheVariants as names;
+ghost use Rattle.ci_code.specs.declared.instruction.Instruction.TheVariants as does;
+ghost use Rattle.ci_task.specs.declared.went.Went.TheVariants.{On};
+ghost use Rattle.ci_task.specs.Going.{CanHeard, DoesHeard};
+
+use crate::active::Active;
+use crate::heard::Heard;
+use crate::outcomes::fail;
+use crate::went::Went;
+use arrayvec::ArrayVec;
+use ci_base::bounds::MOST_TEXT_BYTES;
+use ci_base::errors::TEXT_TOO_LONG;
+use ci_base::{Kind, Relation, Text, Value};
+use ci_builtin::{relates, truth};
+use ci_code::RawParts;
+use ci_stack::TaskStack;
+
+/// Two texts give place to what a relation says of them.
+pub fn compare(
+    code: &RawParts,
+    relation: Relation,
+    at: Active,
+    stack: &mut TaskStack,
+    heard: &Heard,
+)
+    requires can { CanHeard code.now (does.CmpStr relation) at stack.old heard.now }
+    ensures { DoesHeard code.now (does.CmpStr relation) at stack.old heard.now On stack.new heard.now }
+{
+    let count = stack.count();
+    let low = count - 2;
+    let high = count - 1;
+    let first = stack.text_at(low);
+    let second = stack.text_at(high);
+    let order = first.cmp(&second);
+    let answer = truth(relates(relation, order));
+    stack.replace_by_number(2, answer);
+}
+
+/// Two texts give place to both, one behind the other; a run error where that is too long.
+pub fn join(code: &RawParts, at: Active, stack: &mut TaskStack, heard: &mut Heard) -> Went
+    requires can { CanHeard code.now does.Cat at stack.old heard.old }
+    ensures { DoesHeard code.now does.Cat at stack.old heard.old result stack.new heard.new }
+{
+    let count = stack.count();
+    let low = count - 2;
+    let high = count - 1;
+    let first = stack.text_at(low);
+    let second = stack.text_at(high);
+    if first.len() + second.len() > MOST_TEXT_BYTES {
+        return fail(2, Kind::Str, TEXT_TOO_LONG, stack, heard);
+    }
+    let both = Value::Str(joined(first, second));
+    stack.replace_by(2, &both);
+    Went::On
+}
+
+/// The text of these bytes and those.
+fn joined(first: &[u8], second: &[u8]) -> Text
+    requires { length first.now + length second.now ≤ MOST_TEXT_BYTES }
+    ensures { result ≡ first.now ++ second.now }
+{
+    let mut both: ArrayVec<u8, MOST_TEXT_BYTES> = ArrayVec::new();
+    let _first_fits = both.try_extend_from_slice(first);
+    let _second_fits = both.try_extend_from_slice(second);
+    Text::of_few(both.as_slice())
+}
+
+/// A text and two INTs give place to a part of the text.
+pub fn take_part(code: &RawParts, at: Active, stack: &mut TaskStack, heard: &Heard)
+    requires can { CanHeard code.now (does.Private names.StrMid) at stack.old heard.now }
+    ensures { DoesHeard code.now (does.Private names.StrMid) at stack.old heard.now On stack.new heard.now }
+{
+    let count = stack.count();
+    let last = count - 1;
+    let second = count - 2;
+    let third = count - 3;
+    let most = stack.number_at(last);
+    let from = stack.number_at(second);
+    let text = stack.text_at(third);
+    let value = Value::Str(Text::of_few(part(text, from, most)));
+    stack.replace_by(3, &value);
+}
+
+/// The bytes from an offset on, at most so many.
+fn part(bytes: &[u8], from: i32, most: i32) -> &[u8]
+    ensures value { result.now ≡ functions.mid bytes.now from most }
+    ensures within { length result.now ≤ length bytes.now }
+{
+    if from < 0 {
+        return &[];
+    }
+    let start = (from as usize).min(bytes.len());
+    let behind = &bytes[start..];
+    let end = count_of(most).min(behind.len());
+    &behind[..end]
+}
+
+/// How many bytes an INT asks for: none where it is negative.
+fn count_of(n: i32) -> usize
+    ensures { result ≡ functions.count_of n }
+{
+    if n < 0 { 0 } else { n as usize }
+}
