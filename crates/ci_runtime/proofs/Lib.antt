@@ -1,2 +1,14 @@
 pub mod Alike
 pub mod Back
+pub mod Beginning
+pub mod Born
+pub mod Choosing
+pub mod Closing
+pub mod Counting
+pub mod Entering
+pub mod Keeping
+pub mod Placing
+pub mod Rounding
+pub mod Running
+pub mod Seating
+pub mod Turning

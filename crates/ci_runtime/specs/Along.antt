@@ -1,5 +1,6 @@
 -- A machine of the code that has come along the trail of a task.
 use Rattle.std.specs.Prelude.{◌≡◌, ℕ, List, map, Some, slice_get}
+use Rattle.ci_base.specs.declared.entry.Entry.{Entry}
 use Rattle.ci_base.specs.declared.layout.CellHead.{CellHead}
 use Rattle.ci_base.specs.declared.layout.Head.{Head}
 use Rattle.ci_base.specs.declared.task.Birth.{Birth}
@@ -12,6 +13,8 @@ use Rattle.ci_code.specs.declared.raw.RawParts.{RawParts}
 use Rattle.ci_code.specs.Machine.{next, opening, resume}
 use Rattle.ci_code.specs.Moves.{Machine}
 use Rattle.ci_translation.specs.Alike.{Led}
+use Rattle.ci_world.specs.Trails.{trail}
+use Rattle.ci_world.specs.World.{Origin}
 
 -- the kinds of the cells
 abbrev pub kinds : RawParts → List Kind
@@ -29,3 +32,7 @@ LedAlong code x start =
 -- it has come further from there, by private instructions of which k are ticks
 abbrev pub Along : RawParts → Trail → ℕ → Machine → Type 0
 Along code x k m = (start : Machine) × LedAlong code x start × Reaches (next code) start k m
+
+-- so is every task of a history
+abbrev pub AllBorn : RawParts → Origin → List Entry → Type 0
+AllBorn code o h = (t : ℕ) (b : Birth) → (trail o t h).birth ≡ Some b → IsBorn code b

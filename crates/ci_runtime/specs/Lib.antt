@@ -1,2 +1,9 @@
 pub mod Along
+pub mod Boards
+pub mod Choosing
+pub mod Counting
+pub mod Desks
 pub mod Laws
+pub mod Notes
+pub mod Runs
+pub mod Seats
