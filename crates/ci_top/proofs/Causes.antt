@@ -5,9 +5,10 @@ use Rattle.std.specs.List.{slice_get}
 use Rattle.ci_outside.specs.Causes.{Rose}
 use Rattle.ci_outside.specs.Shelf.{Files, HasFile}
 use Rattle.ci_source.specs.declared.fault.Fault.{Fault}
-use Rattle.ci_source.specs.Compiling.{HasFirstFault, parse_to}
+use Rattle.ci_source.specs.Compiling.{HasFirstFault, compiles, parse_to}
 use Rattle.ci_source.specs.FirstForm.{files_form}
-use Rattle.ci_source.specs.Laws.{HaveOneFirstFault, NeverBothMeanings, HaveOneTrees}
+use Rattle.ci_source.specs.Laws.{HaveOneFirstFault, NeverBothMeanings, HaveOneProject, HaveOneTrees}
+use Rattle.ci_tree.specs.Bound.{Project}
 use Rattle.ci_tree.specs.declared.trace_project.TraceProject.{TraceProject}
 use Rattle.ci_words.specs.declared.command.Command.{Command}
 use Rattle.ci_words.specs.declared.command.Command.TheVariants as commands
@@ -17,7 +18,7 @@ use Rattle.ci_words.specs.Order.{Orders}
 use Rattle.ci_words.proofs.Answer.{one_answer}
 use Rattle.ci_top.specs.declared.decision.FileFault.{FileFault}
 use Rattle.ci_top.specs.declared.decision.FileFault.TheVariants as faults
-use Rattle.ci_top.specs.Answers.{Kept, words_refused, workers_refused, order_not_built, not_fetched, source_refused, form_refused, checked, no_memory, ran, FaultHolds, ComesTo, HasAll, Compiles, RunsAs, HasNoForm, IsRun, IsRefused, IsOfNoForm}
+use Rattle.ci_top.specs.Answers.{Kept, words_refused, workers_refused, order_not_built, not_fetched, source_refused, form_refused, checked, listed, no_memory, ran, FaultHolds, ComesTo, HasAll, Compiles, RunsAs, HasNoForm, IsRun, IsRefused, IsOfNoForm, IsListed}
 use Rattle.ci_top.specs.Asked.{names_of, wanted_of, is_built, AskFor, AskForWorkers, AreRefused}
 use Rattle.ci_top.specs.Fetching.{Wanted, Fetched}
 use Rattle.ci_top.specs.OneCause.{OneCause}
@@ -226,11 +227,31 @@ form_clash one_trees sources sources' project same runs none =
     option_clash project (files_form none.trees) none.no_form (sym (ap files_form trees_same) ∙ runs.form)
 
 -- an order has one command
-pub command_clash : (words : List (List ℕ)) (files : Option Files) (contents contents' : List (List ℕ)) (one : HasAll words files contents) (two : HasAll words files contents') → one.asked.command ≡ commands.Run → two.asked.command ≡ commands.Check → ⊥
-command_clash words files contents contents' one two runs checks =
-    let same : one.asked.command ≡ two.asked.command = ap (λ o. o.command) (one_order words one.asked two.asked one.asks.words_are two.asks.words_are) in
+pub command_clash : (words : List (List ℕ)) (files : Option Files) (contents contents' : List (List ℕ)) (one : HasAll words files contents) (two : HasAll words files contents') (c d : Command)
+    → one.asked.command ≡ c → two.asked.command ≡ d → (c ≡ d → ⊥) → ⊥
+command_clash words files contents contents' one two c d is_c is_d differ =
+    differ (sym is_c ∙ ap (λ o. o.command) (one_order words one.asked two.asked one.asks.words_are two.asks.words_are) ∙ is_d)
+
+pub run-not_check : commands.Run ≡ commands.Check → ⊥
+run-not_check same =
     let Family : Command → Type 0 = λ c. elim c [ commands.Run ↦ Unit {0} | commands.Check ↦ ⊥ | commands.List ↦ Unit {0} | commands.Replay ↦ Unit {0} | commands.Make ↦ Unit {0} ] in
-    subst Family (sym runs ∙ same ∙ checks) tt
+    subst Family same tt
+
+pub run-not_list : commands.Run ≡ commands.List → ⊥
+run-not_list same =
+    let Family : Command → Type 0 = λ c. elim c [ commands.Run ↦ Unit {0} | commands.Check ↦ Unit {0} | commands.List ↦ ⊥ | commands.Replay ↦ Unit {0} | commands.Make ↦ Unit {0} ] in
+    subst Family same tt
+
+pub check-not_list : commands.Check ≡ commands.List → ⊥
+check-not_list same =
+    let Family : Command → Type 0 = λ c. elim c [ commands.Run ↦ Unit {0} | commands.Check ↦ Unit {0} | commands.List ↦ ⊥ | commands.Replay ↦ Unit {0} | commands.Make ↦ Unit {0} ] in
+    subst Family same tt
+
+-- the listings of the same files are of one project
+same_listed : HaveOneProject → (words : List (List ℕ)) (files : Files) (project project' : Project) → IsListed words (Some files) project → IsListed words (Some files) project' → project ≡ project'
+same_listed one_project words files project project' one two =
+    let Family : List (List ℕ) → Type 0 = λ l. compiles l project' in
+    one_project one.contents project project' one.compiled (subst Family (sym (all_contents words files one.contents two.contents one.read two.read)) two.compiled)
 
 -- the first of the files has one name
 same_first : (words : List (List ℕ)) (files : Files) (name name' : List ℕ) → IsOfNoForm words (Some files) name → IsOfNoForm words (Some files) name' → name ≡ name'
@@ -248,149 +269,185 @@ same_project one_trees words files kept kept' project project' world world' one 
     cc
 
 -- two causes that hold agree
-pub one_cause_lem : HaveOneFirstFault → NeverBothMeanings → HaveOneTrees → OneCause
-one_cause_lem one_fault never_both one_trees words files before now kept kept' (words_refused fault) (words_refused fault') calm one two =
+pub one_cause_lem : HaveOneFirstFault → NeverBothMeanings → HaveOneProject → HaveOneTrees → OneCause
+one_cause_lem one_fault never_both one_project one_trees words files before now kept kept' (words_refused fault) (words_refused fault') calm one two =
     inl (ap words_refused (one_refusal words fault fault' one.1 two.1))
-one_cause_lem one_fault never_both one_trees words files before now kept kept' (words_refused fault) (workers_refused index') calm one two =
+one_cause_lem one_fault never_both one_project one_trees words files before now kept kept' (words_refused fault) (workers_refused index') calm one two =
     absurd (order_clash words two.1.asked fault two.1.words_are one.1)
-one_cause_lem one_fault never_both one_trees words files before now kept kept' (words_refused fault) order_not_built calm one two =
+one_cause_lem one_fault never_both one_project one_trees words files before now kept kept' (words_refused fault) order_not_built calm one two =
     absurd (order_clash words two.1.asked fault two.1.words_are one.1)
-one_cause_lem one_fault never_both one_trees words files before now kept kept' (words_refused fault) (not_fetched f' number' name') calm one two =
+one_cause_lem one_fault never_both one_project one_trees words files before now kept kept' (words_refused fault) (not_fetched f' number' name') calm one two =
     absurd (refused-not_asked words two.1.asked (inl (fault, one.1)) two.1.asks)
-one_cause_lem one_fault never_both one_trees words files before now kept kept' (words_refused fault) (source_refused name' source' fault' offset') calm one two =
+one_cause_lem one_fault never_both one_project one_trees words files before now kept kept' (words_refused fault) (source_refused name' source' fault' offset') calm one two =
     absurd (refused-not_asked words two.1.read.asked (inl (fault, one.1)) two.1.read.asks)
-one_cause_lem one_fault never_both one_trees words files before now kept kept' (words_refused fault) (form_refused name') calm one two =
+one_cause_lem one_fault never_both one_project one_trees words files before now kept kept' (words_refused fault) (form_refused name') calm one two =
     absurd (refused-not_asked words two.1.read.asked (inl (fault, one.1)) two.1.read.asks)
-one_cause_lem one_fault never_both one_trees words files before now kept kept' (words_refused fault) checked calm one two =
+one_cause_lem one_fault never_both one_project one_trees words files before now kept kept' (words_refused fault) checked calm one two =
     absurd (refused-not_asked words two.1.read.asked (inl (fault, one.1)) two.1.read.asks)
-one_cause_lem one_fault never_both one_trees words files before now kept kept' (words_refused fault) no_memory calm one two =
+one_cause_lem one_fault never_both one_project one_trees words files before now kept kept' (words_refused fault) (listed project') calm one two =
+    absurd (refused-not_asked words two.1.read.asked (inl (fault, one.1)) two.1.read.asks)
+one_cause_lem one_fault never_both one_project one_trees words files before now kept kept' (words_refused fault) no_memory calm one two =
     inr (inl refl)
-one_cause_lem one_fault never_both one_trees words files before now kept kept' (words_refused fault) (ran project' world') calm one two =
+one_cause_lem one_fault never_both one_project one_trees words files before now kept kept' (words_refused fault) (ran project' world') calm one two =
     absurd (refused-not_asked words two.read.asked (inl (fault, one.1)) two.read.asks)
-one_cause_lem one_fault never_both one_trees words files before now kept kept' (workers_refused index) (words_refused fault') calm one two =
+one_cause_lem one_fault never_both one_project one_trees words files before now kept kept' (workers_refused index) (words_refused fault') calm one two =
     absurd (order_clash words one.1.asked fault' one.1.words_are two.1)
-one_cause_lem one_fault never_both one_trees words files before now kept kept' (workers_refused index) (workers_refused index') calm one two =
+one_cause_lem one_fault never_both one_project one_trees words files before now kept kept' (workers_refused index) (workers_refused index') calm one two =
     inl (ap workers_refused (one_index words index index' one.1 two.1))
-one_cause_lem one_fault never_both one_trees words files before now kept kept' (workers_refused index) order_not_built calm one two =
+one_cause_lem one_fault never_both one_project one_trees words files before now kept kept' (workers_refused index) order_not_built calm one two =
     absurd (workers_clash words index two.1.asked one.1 two.1.words_are two.1.alone)
-one_cause_lem one_fault never_both one_trees words files before now kept kept' (workers_refused index) (not_fetched f' number' name') calm one two =
+one_cause_lem one_fault never_both one_project one_trees words files before now kept kept' (workers_refused index) (not_fetched f' number' name') calm one two =
     absurd (refused-not_asked words two.1.asked (inr (inl (index, one.1))) two.1.asks)
-one_cause_lem one_fault never_both one_trees words files before now kept kept' (workers_refused index) (source_refused name' source' fault' offset') calm one two =
+one_cause_lem one_fault never_both one_project one_trees words files before now kept kept' (workers_refused index) (source_refused name' source' fault' offset') calm one two =
     absurd (refused-not_asked words two.1.read.asked (inr (inl (index, one.1))) two.1.read.asks)
-one_cause_lem one_fault never_both one_trees words files before now kept kept' (workers_refused index) (form_refused name') calm one two =
+one_cause_lem one_fault never_both one_project one_trees words files before now kept kept' (workers_refused index) (form_refused name') calm one two =
     absurd (refused-not_asked words two.1.read.asked (inr (inl (index, one.1))) two.1.read.asks)
-one_cause_lem one_fault never_both one_trees words files before now kept kept' (workers_refused index) checked calm one two =
+one_cause_lem one_fault never_both one_project one_trees words files before now kept kept' (workers_refused index) checked calm one two =
     absurd (refused-not_asked words two.1.read.asked (inr (inl (index, one.1))) two.1.read.asks)
-one_cause_lem one_fault never_both one_trees words files before now kept kept' (workers_refused index) no_memory calm one two =
+one_cause_lem one_fault never_both one_project one_trees words files before now kept kept' (workers_refused index) (listed project') calm one two =
+    absurd (refused-not_asked words two.1.read.asked (inr (inl (index, one.1))) two.1.read.asks)
+one_cause_lem one_fault never_both one_project one_trees words files before now kept kept' (workers_refused index) no_memory calm one two =
     inr (inl refl)
-one_cause_lem one_fault never_both one_trees words files before now kept kept' (workers_refused index) (ran project' world') calm one two =
+one_cause_lem one_fault never_both one_project one_trees words files before now kept kept' (workers_refused index) (ran project' world') calm one two =
     absurd (refused-not_asked words two.read.asked (inr (inl (index, one.1))) two.read.asks)
-one_cause_lem one_fault never_both one_trees words files before now kept kept' order_not_built (words_refused fault') calm one two =
+one_cause_lem one_fault never_both one_project one_trees words files before now kept kept' order_not_built (words_refused fault') calm one two =
     absurd (order_clash words one.1.asked fault' one.1.words_are two.1)
-one_cause_lem one_fault never_both one_trees words files before now kept kept' order_not_built (workers_refused index') calm one two =
+one_cause_lem one_fault never_both one_project one_trees words files before now kept kept' order_not_built (workers_refused index') calm one two =
     absurd (workers_clash words index' one.1.asked two.1 one.1.words_are one.1.alone)
-one_cause_lem one_fault never_both one_trees words files before now kept kept' order_not_built order_not_built calm one two =
+one_cause_lem one_fault never_both one_project one_trees words files before now kept kept' order_not_built order_not_built calm one two =
     inl refl
-one_cause_lem one_fault never_both one_trees words files before now kept kept' order_not_built (not_fetched f' number' name') calm one two =
+one_cause_lem one_fault never_both one_project one_trees words files before now kept kept' order_not_built (not_fetched f' number' name') calm one two =
     absurd (refused-not_asked words two.1.asked (inr (inr one.1)) two.1.asks)
-one_cause_lem one_fault never_both one_trees words files before now kept kept' order_not_built (source_refused name' source' fault' offset') calm one two =
+one_cause_lem one_fault never_both one_project one_trees words files before now kept kept' order_not_built (source_refused name' source' fault' offset') calm one two =
     absurd (refused-not_asked words two.1.read.asked (inr (inr one.1)) two.1.read.asks)
-one_cause_lem one_fault never_both one_trees words files before now kept kept' order_not_built (form_refused name') calm one two =
+one_cause_lem one_fault never_both one_project one_trees words files before now kept kept' order_not_built (form_refused name') calm one two =
     absurd (refused-not_asked words two.1.read.asked (inr (inr one.1)) two.1.read.asks)
-one_cause_lem one_fault never_both one_trees words files before now kept kept' order_not_built checked calm one two =
+one_cause_lem one_fault never_both one_project one_trees words files before now kept kept' order_not_built checked calm one two =
     absurd (refused-not_asked words two.1.read.asked (inr (inr one.1)) two.1.read.asks)
-one_cause_lem one_fault never_both one_trees words files before now kept kept' order_not_built no_memory calm one two =
+one_cause_lem one_fault never_both one_project one_trees words files before now kept kept' order_not_built (listed project') calm one two =
+    absurd (refused-not_asked words two.1.read.asked (inr (inr one.1)) two.1.read.asks)
+one_cause_lem one_fault never_both one_project one_trees words files before now kept kept' order_not_built no_memory calm one two =
     inr (inl refl)
-one_cause_lem one_fault never_both one_trees words files before now kept kept' order_not_built (ran project' world') calm one two =
+one_cause_lem one_fault never_both one_project one_trees words files before now kept kept' order_not_built (ran project' world') calm one two =
     absurd (refused-not_asked words two.read.asked (inr (inr one.1)) two.read.asks)
-one_cause_lem one_fault never_both one_trees words files before now kept kept' (not_fetched f number name) (words_refused fault') calm one two =
+one_cause_lem one_fault never_both one_project one_trees words files before now kept kept' (not_fetched f number name) (words_refused fault') calm one two =
     absurd (refused-not_asked words one.1.asked (inl (fault', two.1)) one.1.asks)
-one_cause_lem one_fault never_both one_trees words files before now kept kept' (not_fetched f number name) (workers_refused index') calm one two =
+one_cause_lem one_fault never_both one_project one_trees words files before now kept kept' (not_fetched f number name) (workers_refused index') calm one two =
     absurd (refused-not_asked words one.1.asked (inr (inl (index', two.1))) one.1.asks)
-one_cause_lem one_fault never_both one_trees words files before now kept kept' (not_fetched f number name) order_not_built calm one two =
+one_cause_lem one_fault never_both one_project one_trees words files before now kept kept' (not_fetched f number name) order_not_built calm one two =
     absurd (refused-not_asked words one.1.asked (inr (inr two.1)) one.1.asks)
-one_cause_lem one_fault never_both one_trees words files before now kept kept' (not_fetched f number name) (not_fetched f' number' name') calm one two =
+one_cause_lem one_fault never_both one_project one_trees words files before now kept kept' (not_fetched f number name) (not_fetched f' number' name') calm one two =
     inl (same_file words files before now f f' number number' name name' calm one.1 one.2 two.1 two.2)
-one_cause_lem one_fault never_both one_trees words files before now kept kept' (not_fetched f number name) (source_refused name' source' fault' offset') calm one two =
+one_cause_lem one_fault never_both one_project one_trees words files before now kept kept' (not_fetched f number name) (source_refused name' source' fault' offset') calm one two =
     absurd (not_all words files before now number f name two.1.contents calm one.1 one.2 two.1.read)
-one_cause_lem one_fault never_both one_trees words files before now kept kept' (not_fetched f number name) (form_refused name') calm one two =
+one_cause_lem one_fault never_both one_project one_trees words files before now kept kept' (not_fetched f number name) (form_refused name') calm one two =
     absurd (not_all words files before now number f name two.1.contents calm one.1 one.2 two.1.read)
-one_cause_lem one_fault never_both one_trees words files before now kept kept' (not_fetched f number name) checked calm one two =
+one_cause_lem one_fault never_both one_project one_trees words files before now kept kept' (not_fetched f number name) checked calm one two =
     absurd (not_all words files before now number f name two.1.contents calm one.1 one.2 two.1.read)
-one_cause_lem one_fault never_both one_trees words files before now kept kept' (not_fetched f number name) no_memory calm one two =
+one_cause_lem one_fault never_both one_project one_trees words files before now kept kept' (not_fetched f number name) (listed project') calm one two =
+    absurd (not_all words files before now number f name two.1.contents calm one.1 one.2 two.1.read)
+one_cause_lem one_fault never_both one_project one_trees words files before now kept kept' (not_fetched f number name) no_memory calm one two =
     inr (inl refl)
-one_cause_lem one_fault never_both one_trees words files before now kept kept' (not_fetched f number name) (ran project' world') calm one two =
+one_cause_lem one_fault never_both one_project one_trees words files before now kept kept' (not_fetched f number name) (ran project' world') calm one two =
     absurd (not_all words files before now number f name two.contents calm one.1 one.2 two.read)
-one_cause_lem one_fault never_both one_trees words files before now kept kept' (source_refused name source fault offset) (words_refused fault') calm one two =
+one_cause_lem one_fault never_both one_project one_trees words files before now kept kept' (source_refused name source fault offset) (words_refused fault') calm one two =
     absurd (refused-not_asked words one.1.read.asked (inl (fault', two.1)) one.1.read.asks)
-one_cause_lem one_fault never_both one_trees words files before now kept kept' (source_refused name source fault offset) (workers_refused index') calm one two =
+one_cause_lem one_fault never_both one_project one_trees words files before now kept kept' (source_refused name source fault offset) (workers_refused index') calm one two =
     absurd (refused-not_asked words one.1.read.asked (inr (inl (index', two.1))) one.1.read.asks)
-one_cause_lem one_fault never_both one_trees words files before now kept kept' (source_refused name source fault offset) order_not_built calm one two =
+one_cause_lem one_fault never_both one_project one_trees words files before now kept kept' (source_refused name source fault offset) order_not_built calm one two =
     absurd (refused-not_asked words one.1.read.asked (inr (inr two.1)) one.1.read.asks)
-one_cause_lem one_fault never_both one_trees words files before now kept kept' (source_refused name source fault offset) (not_fetched f' number' name') calm one two =
+one_cause_lem one_fault never_both one_project one_trees words files before now kept kept' (source_refused name source fault offset) (not_fetched f' number' name') calm one two =
     absurd (not_all words files before now number' f' name' one.1.contents calm two.1 two.2 one.1.read)
-one_cause_lem one_fault never_both one_trees words files before now kept kept' (source_refused name source fault offset) (source_refused name' source' fault' offset') calm one two =
+one_cause_lem one_fault never_both one_project one_trees words files before now kept kept' (source_refused name source fault offset) (source_refused name' source' fault' offset') calm one two =
     inl (same_refusal one_fault words files name name' source source' fault fault' offset offset' one.1 two.1)
-one_cause_lem one_fault never_both one_trees words files before now kept kept' (source_refused name source fault offset) (form_refused name') calm one two =
+one_cause_lem one_fault never_both one_project one_trees words files before now kept kept' (source_refused name source fault offset) (form_refused name') calm one two =
     absurd (refused-not_compiled never_both words files name source fault offset two.1.contents one.1 two.1.read two.1.refused.compiled)
-one_cause_lem one_fault never_both one_trees words files before now kept kept' (source_refused name source fault offset) checked calm one two =
+one_cause_lem one_fault never_both one_project one_trees words files before now kept kept' (source_refused name source fault offset) checked calm one two =
     absurd (refused-not_compiled never_both words files name source fault offset two.1.contents one.1 two.1.read two.1.compiled)
-one_cause_lem one_fault never_both one_trees words files before now kept kept' (source_refused name source fault offset) no_memory calm one two =
+one_cause_lem one_fault never_both one_project one_trees words files before now kept kept' (source_refused name source fault offset) (listed project') calm one two =
+    absurd (refused-not_compiled never_both words files name source fault offset two.1.contents one.1 two.1.read (project', two.1.compiled))
+one_cause_lem one_fault never_both one_project one_trees words files before now kept kept' (source_refused name source fault offset) no_memory calm one two =
     inr (inl refl)
-one_cause_lem one_fault never_both one_trees words files before now kept kept' (source_refused name source fault offset) (ran project' world') calm one two =
+one_cause_lem one_fault never_both one_project one_trees words files before now kept kept' (source_refused name source fault offset) (ran project' world') calm one two =
     absurd (refused-not_compiled never_both words files name source fault offset two.contents one.1 two.read two.compiled.compiled)
-one_cause_lem one_fault never_both one_trees words files before now kept kept' (form_refused name) (words_refused fault') calm one two =
+one_cause_lem one_fault never_both one_project one_trees words files before now kept kept' (form_refused name) (words_refused fault') calm one two =
     absurd (refused-not_asked words one.1.read.asked (inl (fault', two.1)) one.1.read.asks)
-one_cause_lem one_fault never_both one_trees words files before now kept kept' (form_refused name) (workers_refused index') calm one two =
+one_cause_lem one_fault never_both one_project one_trees words files before now kept kept' (form_refused name) (workers_refused index') calm one two =
     absurd (refused-not_asked words one.1.read.asked (inr (inl (index', two.1))) one.1.read.asks)
-one_cause_lem one_fault never_both one_trees words files before now kept kept' (form_refused name) order_not_built calm one two =
+one_cause_lem one_fault never_both one_project one_trees words files before now kept kept' (form_refused name) order_not_built calm one two =
     absurd (refused-not_asked words one.1.read.asked (inr (inr two.1)) one.1.read.asks)
-one_cause_lem one_fault never_both one_trees words files before now kept kept' (form_refused name) (not_fetched f' number' name') calm one two =
+one_cause_lem one_fault never_both one_project one_trees words files before now kept kept' (form_refused name) (not_fetched f' number' name') calm one two =
     absurd (not_all words files before now number' f' name' one.1.contents calm two.1 two.2 one.1.read)
-one_cause_lem one_fault never_both one_trees words files before now kept kept' (form_refused name) (source_refused name' source' fault' offset') calm one two =
+one_cause_lem one_fault never_both one_project one_trees words files before now kept kept' (form_refused name) (source_refused name' source' fault' offset') calm one two =
     absurd (refused-not_compiled never_both words files name' source' fault' offset' one.1.contents two.1 one.1.read one.1.refused.compiled)
-one_cause_lem one_fault never_both one_trees words files before now kept kept' (form_refused name) (form_refused name') calm one two =
+one_cause_lem one_fault never_both one_project one_trees words files before now kept kept' (form_refused name) (form_refused name') calm one two =
     inl (ap form_refused (same_first words files name name' one.1 two.1))
-one_cause_lem one_fault never_both one_trees words files before now kept kept' (form_refused name) checked calm one two =
-    absurd (command_clash words (Some files) one.1.contents two.1.contents one.1.read two.1.read one.1.runs two.1.checks)
-one_cause_lem one_fault never_both one_trees words files before now kept kept' (form_refused name) no_memory calm one two =
+one_cause_lem one_fault never_both one_project one_trees words files before now kept kept' (form_refused name) checked calm one two =
+    absurd (command_clash words (Some files) one.1.contents two.1.contents one.1.read two.1.read commands.Run commands.Check one.1.runs two.1.checks run-not_check)
+one_cause_lem one_fault never_both one_project one_trees words files before now kept kept' (form_refused name) (listed project') calm one two =
+    absurd (command_clash words (Some files) one.1.contents two.1.contents one.1.read two.1.read commands.Run commands.List one.1.runs two.1.lists run-not_list)
+one_cause_lem one_fault never_both one_project one_trees words files before now kept kept' (form_refused name) no_memory calm one two =
     inr (inl refl)
-one_cause_lem one_fault never_both one_trees words files before now kept kept' (form_refused name) (ran project' world') calm one two =
+one_cause_lem one_fault never_both one_project one_trees words files before now kept kept' (form_refused name) (ran project' world') calm one two =
     absurd (form_clash one_trees two.contents one.1.contents project' (all_contents words files two.contents one.1.contents two.read one.1.read) two.compiled one.1.refused)
-one_cause_lem one_fault never_both one_trees words files before now kept kept' checked (words_refused fault') calm one two =
+one_cause_lem one_fault never_both one_project one_trees words files before now kept kept' checked (words_refused fault') calm one two =
     absurd (refused-not_asked words one.1.read.asked (inl (fault', two.1)) one.1.read.asks)
-one_cause_lem one_fault never_both one_trees words files before now kept kept' checked (workers_refused index') calm one two =
+one_cause_lem one_fault never_both one_project one_trees words files before now kept kept' checked (workers_refused index') calm one two =
     absurd (refused-not_asked words one.1.read.asked (inr (inl (index', two.1))) one.1.read.asks)
-one_cause_lem one_fault never_both one_trees words files before now kept kept' checked order_not_built calm one two =
+one_cause_lem one_fault never_both one_project one_trees words files before now kept kept' checked order_not_built calm one two =
     absurd (refused-not_asked words one.1.read.asked (inr (inr two.1)) one.1.read.asks)
-one_cause_lem one_fault never_both one_trees words files before now kept kept' checked (not_fetched f' number' name') calm one two =
+one_cause_lem one_fault never_both one_project one_trees words files before now kept kept' checked (not_fetched f' number' name') calm one two =
     absurd (not_all words files before now number' f' name' one.1.contents calm two.1 two.2 one.1.read)
-one_cause_lem one_fault never_both one_trees words files before now kept kept' checked (source_refused name' source' fault' offset') calm one two =
+one_cause_lem one_fault never_both one_project one_trees words files before now kept kept' checked (source_refused name' source' fault' offset') calm one two =
     absurd (refused-not_compiled never_both words files name' source' fault' offset' one.1.contents two.1 one.1.read one.1.compiled)
-one_cause_lem one_fault never_both one_trees words files before now kept kept' checked (form_refused name') calm one two =
-    absurd (command_clash words (Some files) two.1.contents one.1.contents two.1.read one.1.read two.1.runs one.1.checks)
-one_cause_lem one_fault never_both one_trees words files before now kept kept' checked checked calm one two =
+one_cause_lem one_fault never_both one_project one_trees words files before now kept kept' checked (form_refused name') calm one two =
+    absurd (command_clash words (Some files) two.1.contents one.1.contents two.1.read one.1.read commands.Run commands.Check two.1.runs one.1.checks run-not_check)
+one_cause_lem one_fault never_both one_project one_trees words files before now kept kept' checked checked calm one two =
     inl refl
-one_cause_lem one_fault never_both one_trees words files before now kept kept' checked no_memory calm one two =
+one_cause_lem one_fault never_both one_project one_trees words files before now kept kept' checked (listed project') calm one two =
+    absurd (command_clash words (Some files) one.1.contents two.1.contents one.1.read two.1.read commands.Check commands.List one.1.checks two.1.lists check-not_list)
+one_cause_lem one_fault never_both one_project one_trees words files before now kept kept' checked no_memory calm one two =
     inr (inl refl)
-one_cause_lem one_fault never_both one_trees words files before now kept kept' checked (ran project' world') calm one two =
-    absurd (command_clash words (Some files) two.contents one.1.contents two.read one.1.read two.runs one.1.checks)
-one_cause_lem one_fault never_both one_trees words files before now kept kept' no_memory other calm one two = inr (inl refl)
-one_cause_lem one_fault never_both one_trees words files before now kept kept' (ran project world) (words_refused fault') calm one two =
+one_cause_lem one_fault never_both one_project one_trees words files before now kept kept' checked (ran project' world') calm one two =
+    absurd (command_clash words (Some files) two.contents one.1.contents two.read one.1.read commands.Run commands.Check two.runs one.1.checks run-not_check)
+one_cause_lem one_fault never_both one_project one_trees words files before now kept kept' (listed project) (words_refused fault') calm one two =
+    absurd (refused-not_asked words one.1.read.asked (inl (fault', two.1)) one.1.read.asks)
+one_cause_lem one_fault never_both one_project one_trees words files before now kept kept' (listed project) (workers_refused index') calm one two =
+    absurd (refused-not_asked words one.1.read.asked (inr (inl (index', two.1))) one.1.read.asks)
+one_cause_lem one_fault never_both one_project one_trees words files before now kept kept' (listed project) order_not_built calm one two =
+    absurd (refused-not_asked words one.1.read.asked (inr (inr two.1)) one.1.read.asks)
+one_cause_lem one_fault never_both one_project one_trees words files before now kept kept' (listed project) (not_fetched f' number' name') calm one two =
+    absurd (not_all words files before now number' f' name' one.1.contents calm two.1 two.2 one.1.read)
+one_cause_lem one_fault never_both one_project one_trees words files before now kept kept' (listed project) (source_refused name' source' fault' offset') calm one two =
+    absurd (refused-not_compiled never_both words files name' source' fault' offset' one.1.contents two.1 one.1.read (project, one.1.compiled))
+one_cause_lem one_fault never_both one_project one_trees words files before now kept kept' (listed project) (form_refused name') calm one two =
+    absurd (command_clash words (Some files) two.1.contents one.1.contents two.1.read one.1.read commands.Run commands.List two.1.runs one.1.lists run-not_list)
+one_cause_lem one_fault never_both one_project one_trees words files before now kept kept' (listed project) checked calm one two =
+    absurd (command_clash words (Some files) two.1.contents one.1.contents two.1.read one.1.read commands.Check commands.List two.1.checks one.1.lists check-not_list)
+one_cause_lem one_fault never_both one_project one_trees words files before now kept kept' (listed project) (listed project') calm one two =
+    inl (ap listed (same_listed one_project words files project project' one.1 two.1))
+one_cause_lem one_fault never_both one_project one_trees words files before now kept kept' (listed project) no_memory calm one two =
+    inr (inl refl)
+one_cause_lem one_fault never_both one_project one_trees words files before now kept kept' (listed project) (ran project' world') calm one two =
+    absurd (command_clash words (Some files) two.contents one.1.contents two.read one.1.read commands.Run commands.List two.runs one.1.lists run-not_list)
+one_cause_lem one_fault never_both one_project one_trees words files before now kept kept' no_memory other calm one two = inr (inl refl)
+one_cause_lem one_fault never_both one_project one_trees words files before now kept kept' (ran project world) (words_refused fault') calm one two =
     absurd (refused-not_asked words one.read.asked (inl (fault', two.1)) one.read.asks)
-one_cause_lem one_fault never_both one_trees words files before now kept kept' (ran project world) (workers_refused index') calm one two =
+one_cause_lem one_fault never_both one_project one_trees words files before now kept kept' (ran project world) (workers_refused index') calm one two =
     absurd (refused-not_asked words one.read.asked (inr (inl (index', two.1))) one.read.asks)
-one_cause_lem one_fault never_both one_trees words files before now kept kept' (ran project world) order_not_built calm one two =
+one_cause_lem one_fault never_both one_project one_trees words files before now kept kept' (ran project world) order_not_built calm one two =
     absurd (refused-not_asked words one.read.asked (inr (inr two.1)) one.read.asks)
-one_cause_lem one_fault never_both one_trees words files before now kept kept' (ran project world) (not_fetched f' number' name') calm one two =
+one_cause_lem one_fault never_both one_project one_trees words files before now kept kept' (ran project world) (not_fetched f' number' name') calm one two =
     absurd (not_all words files before now number' f' name' one.contents calm two.1 two.2 one.read)
-one_cause_lem one_fault never_both one_trees words files before now kept kept' (ran project world) (source_refused name' source' fault' offset') calm one two =
+one_cause_lem one_fault never_both one_project one_trees words files before now kept kept' (ran project world) (source_refused name' source' fault' offset') calm one two =
     absurd (refused-not_compiled never_both words files name' source' fault' offset' one.contents two.1 one.read one.compiled.compiled)
-one_cause_lem one_fault never_both one_trees words files before now kept kept' (ran project world) (form_refused name') calm one two =
+one_cause_lem one_fault never_both one_project one_trees words files before now kept kept' (ran project world) (form_refused name') calm one two =
     absurd (form_clash one_trees one.contents two.1.contents project (all_contents words files one.contents two.1.contents one.read two.1.read) one.compiled two.1.refused)
-one_cause_lem one_fault never_both one_trees words files before now kept kept' (ran project world) checked calm one two =
-    absurd (command_clash words (Some files) one.contents two.1.contents one.read two.1.read one.runs two.1.checks)
-one_cause_lem one_fault never_both one_trees words files before now kept kept' (ran project world) no_memory calm one two =
+one_cause_lem one_fault never_both one_project one_trees words files before now kept kept' (ran project world) checked calm one two =
+    absurd (command_clash words (Some files) one.contents two.1.contents one.read two.1.read commands.Run commands.Check one.runs two.1.checks run-not_check)
+one_cause_lem one_fault never_both one_project one_trees words files before now kept kept' (ran project world) (listed project') calm one two =
+    absurd (command_clash words (Some files) one.contents two.1.contents one.read two.1.read commands.Run commands.List one.runs two.1.lists run-not_list)
+one_cause_lem one_fault never_both one_project one_trees words files before now kept kept' (ran project world) no_memory calm one two =
     inr (inl refl)
-one_cause_lem one_fault never_both one_trees words files before now kept kept' (ran project world) (ran project' world') calm one two =
+one_cause_lem one_fault never_both one_project one_trees words files before now kept kept' (ran project world) (ran project' world') calm one two =
     inr (inr (project, refl, ap Some (sym (same_project one_trees words files kept kept' project project' world world' one two))))

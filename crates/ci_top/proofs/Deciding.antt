@@ -5,6 +5,7 @@ use Rattle.ci_outside.specs.Shelf.{Files}
 use Rattle.ci_source.specs.declared.compiled.Compiled.{Compiled}
 use Rattle.ci_source.specs.Compiling.{compiles}
 use Rattle.ci_source.specs.Telling.{ReadsTo}
+use Rattle.ci_tree.specs.declared.bound.ProjectParts.{ProjectParts}
 use Rattle.ci_tree.specs.Seen.{items_of}
 use Rattle.ci_tree.specs.SeenBound.{project_of}
 use Rattle.ci_words.specs.declared.order.Order.{Order}
@@ -12,10 +13,10 @@ use Rattle.ci_top.specs.declared.accept.Job.{Job}
 use Rattle.ci_top.specs.declared.accept.Job.TheVariants as jobs
 use Rattle.ci_top.specs.declared.decision.Decision.{Decision}
 use Rattle.ci_top.specs.declared.decision.Decision.TheVariants as decisions
-use Rattle.ci_top.specs.Answers.{words_refused, workers_refused, order_not_built, not_fetched, source_refused, form_refused, checked, no_memory, ran, told_text, words_text, file_text}
+use Rattle.ci_top.specs.Answers.{words_refused, workers_refused, order_not_built, not_fetched, source_refused, form_refused, checked, listed, no_memory, ran, told_text, words_text, file_text}
 use Rattle.ci_top.specs.Asked.{names_of, wanted_of, command_of_job, AskFor}
 use Rattle.ci_top.specs.Fetching.{Fetched}
-use Rattle.ci_top.specs.Decisions.{Decided, RefusesWords, StopsFetching, OfSources, OfTrees, OfRun}
+use Rattle.ci_top.specs.Decisions.{Decided, RefusesWords, StopsFetching, OfCompiled, OfList, OfSources, OfRun}
 
 -- words that are refused
 pub decided-words : (words : List (List ℕ)) (files : Option Files) (before now : ℕ) (decision : Decision) → RefusesWords words decision → Decided words files before now decision
@@ -26,6 +27,7 @@ decided-words words files before now (decisions.NotFetched fault number name) no
 decided-words words files before now (decisions.SourceRefused name fault at) none = absurd none
 decided-words words files before now (decisions.FormRefused name) none = absurd none
 decided-words words files before now decisions.Checked none = absurd none
+decided-words words files before now (decisions.Listed program) none = absurd none
 decided-words words files before now decisions.NoMemory none = absurd none
 decided-words words files before now (decisions.Ran r) none = absurd none
 
@@ -48,6 +50,7 @@ decided-stopped words files before now asked decisions.OrderNotBuilt asks none =
 decided-stopped words files before now asked (decisions.SourceRefused name fault at) asks none = absurd none
 decided-stopped words files before now asked (decisions.FormRefused name) asks none = absurd none
 decided-stopped words files before now asked decisions.Checked asks none = absurd none
+decided-stopped words files before now asked (decisions.Listed program) asks none = absurd none
 decided-stopped words files before now asked (decisions.Ran r) asks none = absurd none
 
 -- the sources that were fetched
@@ -70,6 +73,13 @@ decided-sources words files before now asked job contents (decisions.FormRefused
 decided-sources words files before now asked job contents decisions.Checked asks fetched job_is (checks, compiled) = record {
   cause = checked;
   holds = (refl, record { contents = contents; read = record { asked = asked; asks = asks; fetched = fetched }; checks = job_is ∙ ap command_of_job checks; compiled = compiled });
+  text_is = refl;
+  status_is = refl;
+  told = tt;
+}
+decided-sources words files before now asked job contents (decisions.Listed program) asks fetched job_is (lists, compiled) = record {
+  cause = listed (project_of program);
+  holds = (refl, record { contents = contents; read = record { asked = asked; asks = asks; fetched = fetched }; lists = job_is ∙ ap command_of_job lists; compiled = compiled });
   text_is = refl;
   status_is = refl;
   told = tt;
@@ -108,11 +118,27 @@ of-run names first sources compiled decisions.OrderNotBuilt first_is reads whole
 of-run names first sources compiled (decisions.NotFetched fault number name) first_is reads whole none = absurd none
 of-run names first sources compiled (decisions.SourceRefused name fault at) first_is reads whole none = absurd none
 of-run names first sources compiled decisions.Checked first_is reads whole none = absurd none
+of-run names first sources compiled (decisions.Listed program) first_is reads whole none = absurd none
 
--- a job over the trees of sources
+-- the listing of sources
+of-list : (names : List (List ℕ)) (sources : List (List ℕ)) (project : ProjectParts) (decision : Decision) → compiles sources (project_of project) → OfList project decision → OfSources jobs.List names sources decision
+of-list names sources project (decisions.Listed program) whole same =
+    let Family : ProjectParts → Type 0 = λ x. compiles sources (project_of x) in
+    (refl, subst Family (sym same) whole)
+of-list names sources project decisions.NoMemory whole of_list = tt
+of-list names sources project (decisions.WordsRefused fault) whole none = absurd none
+of-list names sources project decisions.OrderNotBuilt whole none = absurd none
+of-list names sources project (decisions.NotFetched fault number name) whole none = absurd none
+of-list names sources project (decisions.SourceRefused name fault at) whole none = absurd none
+of-list names sources project (decisions.FormRefused name) whole none = absurd none
+of-list names sources project decisions.Checked whole none = absurd none
+of-list names sources project (decisions.Ran r) whole none = absurd none
+
+-- a job over what sources come to
 pub of-sources : (job : Job) (names : List (List ℕ)) (first : List ℕ) (sources : List (List ℕ)) (compiled : Compiled) (decision : Decision) → slice_get names 0 ≡ Some first → ReadsTo sources compiled
-    → compiles sources (project_of compiled.project) → OfTrees job first (map items_of compiled.trees) decision → OfSources job names sources decision
-of-sources jobs.Run names first sources compiled decision first_is reads whole of_trees = of-run names first sources compiled decision first_is reads whole of_trees
+    → compiles sources (project_of compiled.project) → OfCompiled job first compiled decision → OfSources job names sources decision
+of-sources jobs.Run names first sources compiled decision first_is reads whole of_compiled = of-run names first sources compiled decision first_is reads whole of_compiled
 of-sources jobs.Check names first sources compiled decision first_is reads whole checked_is =
     let Family : Decision → Type 0 = OfSources jobs.Check names sources in
     subst Family (sym checked_is) (refl, (project_of compiled.project, whole))
+of-sources jobs.List names first sources compiled decision first_is reads whole of_compiled = of-list names sources compiled.project decision whole of_compiled

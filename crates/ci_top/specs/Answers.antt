@@ -10,6 +10,7 @@ use Rattle.ci_base.specs.declared.limits.Ending.TheVariants as endings
 use Rattle.ci_base.specs.declared.list.Loose.{Loose}
 use Rattle.ci_base.specs.declared.position.Position.{Position}
 use Rattle.ci_base.specs.Places.{place}
+use Rattle.ci_listing.specs.Listing.{listing}
 use Rattle.ci_outside.specs.Causes.{Rose}
 use Rattle.ci_outside.specs.Shelf.{Files, LacksFile, HasLongFile}
 use Rattle.ci_outside.specs.Sink.{AppendsFront}
@@ -24,6 +25,7 @@ use Rattle.ci_source.specs.FirstForm.{files_form}
 use Rattle.ci_tree.specs.declared.trace_project.TraceProject.{TraceProject}
 use Rattle.ci_tree.specs.Bound.{Project}
 use Rattle.ci_tree.specs.Tree.{Item}
+use Rattle.ci_translation.specs.Translation.{translation}
 use Rattle.ci_words.specs.declared.command.Command.TheVariants as commands
 use Rattle.ci_words.specs.declared.fault.WordFault.{WordFault}
 use Rattle.ci_words.specs.declared.order.Order.{Order}
@@ -114,6 +116,13 @@ pub record IsChecked (words : List (List ℕ)) (files : Option Files) : Type 0 w
   pub checks : read.asked.command ≡ commands.Check
   pub compiled : Compiles contents
 
+-- all sources were fetched to be listed, and compile to this project
+pub record IsListed (words : List (List ℕ)) (files : Option Files) (project : Project) : Type 0 where
+  pub contents : List (List ℕ)
+  pub read : HasAll words files contents
+  pub lists : read.asked.command ≡ commands.List
+  pub compiled : compiles contents project
+
 -- why an order is answered as it is
 pub data Cause : Type 0 where
   words_refused : (fault : WordFault) → Cause
@@ -123,6 +132,7 @@ pub data Cause : Type 0 where
   source_refused : (name : List ℕ) → (source : List ℕ) → (fault : Fault) → (offset : ℕ) → Cause
   form_refused : (name : List ℕ) → Cause
   checked : Cause
+  listed : (project : Project) → Cause
   no_memory : Cause
   ran : (project : TraceProject) → (world : World) → Cause
 
@@ -142,6 +152,7 @@ Holds words files before now kept (not_fetched fault number file) =
 Holds words files before now kept (source_refused name source fault offset) = (kept ≡ nothing_kept) × IsRefused words files name source fault offset
 Holds words files before now kept (form_refused name) = (kept ≡ nothing_kept) × IsOfNoForm words files name
 Holds words files before now kept checked = (kept ≡ nothing_kept) × IsChecked words files
+Holds words files before now kept (listed project) = (kept ≡ nothing_kept) × IsListed words files project
 Holds words files before now kept no_memory = (kept ≡ nothing_kept) × (asked : Order) × AskFor words asked
 Holds words files before now kept (ran project world) = IsRun words files kept project world
 
@@ -165,6 +176,7 @@ status_of kept (not_fetched fault number file) = fault_status fault
 status_of kept (source_refused name source fault offset) = 1
 status_of kept (form_refused name) = 1
 status_of kept checked = 0
+status_of kept (listed project) = 0
 status_of kept no_memory = 6
 status_of kept (ran project world) = ending_status kept.ending
 
@@ -201,6 +213,7 @@ text_of kept (not_fetched fault number file) = file_text fault number file.name
 text_of kept (source_refused name source fault offset) = name ++ told_text (place source offset) fault
 text_of kept (form_refused name) = name ++ told_text start source_faults.NotBuilt
 text_of kept checked = codes "ok\n"
+text_of kept (listed project) = listing (translation project)
 text_of kept no_memory = codes "out of memory\n"
 text_of kept (ran project world) = report project kept.history world kept.loose kept.ending
 

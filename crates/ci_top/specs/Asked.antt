@@ -32,11 +32,11 @@ wanted_of words asked = each_within MOST_SOURCE_BYTES (names_of words asked)
 abbrev pub is_plain : Order → Bool
 is_plain asked = not (is_some asked.script) && (not (is_some asked.slice_at) && (not (is_some asked.budget_at) && not asked.as_journal))
 
--- what is built of a command: `run` without these options, and `check`
+-- what is built of a command: `run` without these options, `check` and `list`
 abbrev pub is_built_of : Command → Order → Bool
 is_built_of commands.Run asked = is_plain asked
 is_built_of commands.Check asked = true
-is_built_of commands.List asked = false
+is_built_of commands.List asked = true
 is_built_of commands.Replay asked = false
 is_built_of commands.Make asked = false
 
@@ -47,6 +47,7 @@ is_built asked = is_built_of asked.command asked
 abbrev pub command_of_job : Job → Command
 command_of_job jobs.Run = commands.Run
 command_of_job jobs.Check = commands.Check
+command_of_job jobs.List = commands.List
 
 -- the words ask for this order, which is built and has no worker threads
 pub record AskFor (words : List (List ℕ)) (asked : Order) : Type 0 where

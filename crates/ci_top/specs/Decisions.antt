@@ -1,5 +1,5 @@
 -- What becomes of an order: what is kept of it, its text and its status.
-use Rattle.std.specs.Prelude.{◌≡◌, ℕ, List, [], ◌++◌, Option, None, Some, Err, ◌⊎◌, slice_get}
+use Rattle.std.specs.Prelude.{◌≡◌, ℕ, List, [], ◌++◌, Option, None, Some, Err, ◌⊎◌, map, slice_get}
 use Rattle.std.specs.Borrow.{Bor}
 use Rattle.ci_base.specs.Places.{place}
 use Rattle.ci_base.specs.declared.position.Position.{Position}
@@ -7,10 +7,14 @@ use Rattle.ci_outside.specs.Shelf.{Files}
 use Rattle.ci_outside.specs.declared.shelf.Fetch.{Fetch}
 use Rattle.ci_outside.specs.declared.shelf.Fetch.TheVariants as fetches
 use Rattle.ci_source.specs.declared.fault.Fault.{Fault}
-use Rattle.ci_source.specs.Compiling.{HasFirstFault}
+use Rattle.ci_source.specs.Compiling.{compiles, HasFirstFault}
 use Rattle.ci_source.specs.FirstForm.{files_form}
+use Rattle.ci_source.specs.declared.compiled.Compiled.{Compiled}
+use Rattle.ci_tree.specs.declared.bound.ProjectParts.{ProjectParts}
+use Rattle.ci_tree.specs.Seen.{items_of}
 use Rattle.ci_tree.specs.declared.trace_project.TraceProject.{TraceProject}
 use Rattle.ci_tree.specs.Tree.{Item}
+use Rattle.ci_tree.specs.SeenBound.{project_of}
 use Rattle.ci_words.specs.Order.{Orders}
 use Rattle.ci_top.specs.declared.accept.Job.{Job}
 use Rattle.ci_top.specs.declared.accept.Job.TheVariants as jobs
@@ -18,7 +22,7 @@ use Rattle.ci_top.specs.declared.decision.Decision.{Decision}
 use Rattle.ci_top.specs.declared.decision.Decision.TheVariants as decisions
 use Rattle.ci_top.specs.declared.decision.FileFault.TheVariants as faults
 use Rattle.ci_top.specs.declared.run.Ran.{Ran}
-use Rattle.ci_top.specs.Answers.{Kept, nothing_kept, Cause, words_refused, order_not_built, form_refused, checked, no_memory, Holds, FaultHolds, Compiles, RunsAs, HasNoForm, status_of, text_of, told_text, file_text, out_of_range, ending_status, fault_status}
+use Rattle.ci_top.specs.Answers.{Kept, nothing_kept, Cause, words_refused, order_not_built, form_refused, checked, listed, no_memory, Holds, FaultHolds, Compiles, RunsAs, HasNoForm, status_of, text_of, told_text, file_text, out_of_range, ending_status, fault_status}
 use Rattle.ci_top.specs.Asked.{AskForWorkers, AskForUnbuilt}
 use Rattle.ci_top.specs.Fetching.{Wanted, IsNext}
 use Rattle.ci_top.specs.Ran.{RanWhole}
@@ -36,6 +40,7 @@ decision_kept (decisions.NotFetched fault number name) = nothing_kept
 decision_kept (decisions.SourceRefused name fault at) = nothing_kept
 decision_kept (decisions.FormRefused name) = nothing_kept
 decision_kept decisions.Checked = nothing_kept
+decision_kept (decisions.Listed program) = nothing_kept
 decision_kept decisions.NoMemory = nothing_kept
 decision_kept (decisions.Ran r) = kept_of_run r
 
@@ -47,6 +52,7 @@ decision_text (decisions.NotFetched fault number name) = file_text fault number 
 decision_text (decisions.SourceRefused name fault at) = name.now ++ told_text at fault
 decision_text (decisions.FormRefused name) = text_of nothing_kept (form_refused name.now)
 decision_text decisions.Checked = text_of nothing_kept checked
+decision_text (decisions.Listed program) = text_of nothing_kept (listed (project_of program))
 decision_text decisions.NoMemory = text_of nothing_kept no_memory
 decision_text (decisions.Ran r) = report_text r.history.entries r.end
 
@@ -58,6 +64,7 @@ decision_status (decisions.NotFetched fault number name) = fault_status fault
 decision_status (decisions.SourceRefused name fault at) = 1
 decision_status (decisions.FormRefused name) = status_of nothing_kept (form_refused name.now)
 decision_status decisions.Checked = status_of nothing_kept checked
+decision_status (decisions.Listed program) = status_of nothing_kept (listed (project_of program))
 decision_status decisions.NoMemory = status_of nothing_kept no_memory
 decision_status (decisions.Ran r) = ending_status r.end.ending
 
@@ -69,6 +76,7 @@ IsTold (decisions.NotFetched fault number name) = Unit {0}
 IsTold (decisions.SourceRefused name fault at) = Unit {0}
 IsTold (decisions.FormRefused name) = Unit {0}
 IsTold decisions.Checked = Unit {0}
+IsTold (decisions.Listed program) = Unit {0}
 IsTold decisions.NoMemory = Unit {0}
 IsTold (decisions.Ran r) = CanTell r.end
 
@@ -115,6 +123,7 @@ abbrev pub OfSources : Job → List (List ℕ) → List (List ℕ) → Decision 
 OfSources job names sources (decisions.SourceRefused name fault at) = TellsFault names sources name.now fault at
 OfSources job names sources (decisions.FormRefused name) = (job ≡ jobs.Run) × (slice_get names 0 ≡ Some name.now) × HasNoForm sources
 OfSources job names sources decisions.Checked = (job ≡ jobs.Check) × Compiles sources
+OfSources job names sources (decisions.Listed program) = (job ≡ jobs.List) × compiles sources (project_of program)
 OfSources job names sources decisions.NoMemory = Unit {0}
 OfSources job names sources (decisions.Ran r) = (job ≡ jobs.Run) × (project : TraceProject) × RunsAs sources project × RanWhole project r
 OfSources job names sources _ = ⊥
@@ -126,7 +135,14 @@ OfRun first trees decisions.NoMemory = Unit {0}
 OfRun first trees (decisions.Ran r) = (project : TraceProject) × (files_form trees ≡ Some project) × RanWhole project r
 OfRun first trees _ = ⊥
 
--- what becomes of a job over these trees
-abbrev pub OfTrees : Job → List ℕ → List (List Item) → Decision → Type 0
-OfTrees jobs.Run first trees decision = OfRun first trees decision
-OfTrees jobs.Check first trees decision = decision ≡ decisions.Checked
+-- what becomes of the listing of this project
+abbrev pub OfList : ProjectParts → Decision → Type 0
+OfList project (decisions.Listed program) = program ≡ project
+OfList project decisions.NoMemory = Unit {0}
+OfList project _ = ⊥
+
+-- what becomes of a job over what sources come to, where the first file has this name
+abbrev pub OfCompiled : Job → List ℕ → Compiled → Decision → Type 0
+OfCompiled jobs.Run first compiled decision = OfRun first (map items_of compiled.trees) decision
+OfCompiled jobs.Check first compiled decision = decision ≡ decisions.Checked
+OfCompiled jobs.List first compiled decision = OfList compiled.project decision

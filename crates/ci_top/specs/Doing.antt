@@ -7,7 +7,7 @@ use Rattle.ci_words.specs.declared.command.Command.TheVariants as commands
 use Rattle.ci_top.specs.declared.outcome.Outcome.{Outcome}
 use Rattle.ci_top.specs.Answers.{Answers}
 use Rattle.ci_top.specs.Asked.{AreRefused, command_of}
-use Rattle.ci_top.specs.Plain.{CanCheck, CanRunAll, IsApproved, IsReported, IsRunStatus, KeepsNothing}
+use Rattle.ci_top.specs.Plain.{CanCheck, CanList, CanRunAll, IsApproved, IsReported, IsShown, IsRunStatus, KeepsNothing}
 
 -- The call did the order of the given words: what its outcome says of the shelf and the sink, before it and after it. The first field
 -- says all of an answer; those behind it say the main of it once more, for readers who skip the definitions.
@@ -15,10 +15,12 @@ pub record DoesOrder {S K : Type 0} (files : S → Option Files) (shelf_faults :
   pub answer : Answers files shelf_faults bytes sink_faults given shelf shelf_after out out_after outcome
   pub contents : files shelf_after ≡ files shelf
   -- Status 0 of `run` tells a run of the preemptive machine that has finished, and its report was put. Status 0 of `check` tells
-  -- that all files were fetched and their sources compile. No other command has it.
+  -- that all files were fetched and their sources compile, and that of `list` this too, and that the listing of their code was put.
+  -- No other command has it.
   pub reported : outcome.status ≡ 0 → command_of given ≡ Some commands.Run → IsReported given (files shelf) (bytes out) (bytes out_after) outcome
   pub checked : outcome.status ≡ 0 → command_of given ≡ Some commands.Check → IsApproved given (files shelf) (bytes out) (bytes out_after)
-  pub done : outcome.status ≡ 0 → (command_of given ≡ Some commands.Run) ⊎ (command_of given ≡ Some commands.Check)
+  pub shown : outcome.status ≡ 0 → command_of given ≡ Some commands.List → IsShown given (files shelf) (bytes out) (bytes out_after)
+  pub done : outcome.status ≡ 0 → (command_of given ≡ Some commands.Run) ⊎ ((command_of given ≡ Some commands.Check) ⊎ (command_of given ≡ Some commands.List))
   -- No fault is made up.
   pub write_fault : outcome.status ≡ 5 → Rose (sink_faults out) (sink_faults out_after)
   pub read_fault : outcome.status ≡ 15 → Rose (shelf_faults shelf) (shelf_faults shelf_after)
@@ -27,8 +29,9 @@ pub record DoesOrder {S K : Type 0} (files : S → Option Files) (shelf_faults :
   pub words : outcome.status ≡ 2 → AreRefused given
   pub words_always : AreRefused given → (outcome.status ≡ 2) ⊎ (outcome.status ≡ 5)
   pub unfetched : AreRefused given → shelf_after ≡ shelf
-  -- Files that are there and compile are checked or run, where no call fails outside and there is memory.
+  -- Files that are there and compile are checked, listed or run, where no call fails outside and there is memory.
   pub check_answers : CanCheck given (files shelf) → (Rose (shelf_faults shelf) (shelf_faults shelf_after) → ⊥) → (Rose (sink_faults out) (sink_faults out_after) → ⊥) → (outcome.status ≡ 0) ⊎ (outcome.status ≡ 6)
+  pub list_answers : CanList given (files shelf) → (Rose (shelf_faults shelf) (shelf_faults shelf_after) → ⊥) → (Rose (sink_faults out) (sink_faults out_after) → ⊥) → (outcome.status ≡ 0) ⊎ (outcome.status ≡ 6)
   pub run_answers : CanRunAll given (files shelf) → (Rose (shelf_faults shelf) (shelf_faults shelf_after) → ⊥) → (Rose (sink_faults out) (sink_faults out_after) → ⊥) → IsRunStatus outcome.status ⊎ (outcome.status ≡ 6)
   -- With status 6, want of memory, no run is told; where none is told, nothing is kept.
   pub memory : outcome.status ≡ 6 → outcome.ending ≡ endings.NotRun

@@ -7,6 +7,7 @@ pub mod History
 pub mod Report
 pub mod Fetching
 pub mod Asked
+pub mod Compile
 pub mod Defaults
 pub mod Answers
 pub mod Ran

@@ -3,7 +3,7 @@ use Rattle.std.specs.Prelude.{◌≡◌, ℕ, Bool, true, false, ◌||◌, List,
 use Rattle.ci_outside.specs.Causes.{Rose}
 use Rattle.ci_outside.specs.Shelf.{Files}
 use Rattle.ci_tree.specs.declared.trace_project.TraceProject.{TraceProject}
-use Rattle.ci_top.specs.Answers.{Kept, Cause, words_refused, workers_refused, order_not_built, not_fetched, source_refused, form_refused, checked, no_memory, ran, Holds}
+use Rattle.ci_top.specs.Answers.{Kept, Cause, words_refused, workers_refused, order_not_built, not_fetched, source_refused, form_refused, checked, listed, no_memory, ran, Holds}
 
 abbrev pub is_memory : Cause → Bool
 is_memory (words_refused fault) = false
@@ -13,6 +13,7 @@ is_memory (not_fetched fault number file) = false
 is_memory (source_refused name source fault offset) = false
 is_memory (form_refused name) = false
 is_memory checked = false
+is_memory (listed project) = false
 is_memory no_memory = true
 is_memory (ran project world) = false
 
@@ -25,6 +26,7 @@ project_of_run (not_fetched fault number file) = None
 project_of_run (source_refused name source fault offset) = None
 project_of_run (form_refused name) = None
 project_of_run checked = None
+project_of_run (listed project) = None
 project_of_run no_memory = None
 project_of_run (ran project world) = Some project
 

@@ -8,7 +8,10 @@ use Rattle.ci_words.specs.declared.command.Command.TheVariants as commands
 use Rattle.ci_words.specs.declared.order.Order.{Order}
 use Rattle.ci_words.specs.Order.{Orders}
 use Rattle.ci_top.specs.declared.outcome.Outcome.{Outcome}
-use Rattle.ci_top.specs.Answers.{Compiles, IsChecked, IsRun, RunsAs, kept_of}
+use Rattle.ci_listing.specs.Listing.{listing}
+use Rattle.ci_top.specs.Answers.{Compiles, IsChecked, IsListed, IsRun, RunsAs, kept_of}
+use Rattle.ci_translation.specs.Translation.{translation}
+use Rattle.ci_tree.specs.Bound.{Project}
 use Rattle.ci_top.specs.Asked.{AskFor, wanted_of}
 use Rattle.ci_top.specs.Fetching.{Fetched}
 use Rattle.ci_top.specs.Report.{report}
@@ -27,6 +30,12 @@ pub record IsApproved (words : List (List ℕ)) (files : Option Files) (before a
   pub checked : IsChecked words files
   pub put : Appends before after (codes "ok\n")
 
+-- All sources were fetched and compile, and the listing of their project's code was put, and nothing else.
+pub record IsShown (words : List (List ℕ)) (files : Option Files) (before after : Option (List ℕ)) : Type 0 where
+  pub project : Project
+  pub listed : IsListed words files project
+  pub put : Appends before after (listing (translation project))
+
 -- nothing is kept
 pub record KeepsNothing (outcome : Outcome) : Type 0 where
   pub history : outcome.history.entries ≡ []
@@ -38,6 +47,18 @@ pub record CanCheck (words : List (List ℕ)) (files : Option Files) : Type 0 wh
   pub asked : Order
   pub words_are : Orders words (Ok asked)
   pub checks : asked.command ≡ commands.Check
+  pub told : Files
+  pub tells : files ≡ Some told
+  pub contents : List (List ℕ)
+  pub there : Fetched files (wanted_of words asked) contents
+  pub compiled : Compiles contents
+
+-- The words are in order and ask to list files; the shelf tells its files and has each of these, within the limit; and their
+-- sources compile.
+pub record CanList (words : List (List ℕ)) (files : Option Files) : Type 0 where
+  pub asked : Order
+  pub words_are : Orders words (Ok asked)
+  pub lists : asked.command ≡ commands.List
   pub told : Files
   pub tells : files ≡ Some told
   pub contents : List (List ℕ)

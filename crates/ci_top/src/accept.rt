@@ -16,6 +16,7 @@ const OUT_OF_RANGE: u8 = 6;
 pub(crate) enum Job {
     Run,
     Check,
+    List,
 }
 
 /// An order that can be done, and what is to be done for it.
@@ -59,7 +60,7 @@ fn workers_index(order: &Order) -> Option<u32>
     order.workers_at
 }
 
-/// What is to be done for the order, where that is built: `check`, and `run` without options but for worker threads.
+/// What is to be done for the order, where that is built: `check`, `list`, and `run` without options but for worker threads.
 fn job_of(order: &Order) -> Option<Job>
     ensures built { IfSome result (λ job. is_built order.now ≡ true) }
     ensures job { IfSome result (λ job. order.now.command ≡ command_of_job job) }
@@ -68,7 +69,8 @@ fn job_of(order: &Order) -> Option<Job>
     match order.command {
         Command::Run if is_plain(order) => Some(Job::Run),
         Command::Check => Some(Job::Check),
-        Command::Run | Command::List | Command::Replay | Command::Make => None,
+        Command::List => Some(Job::List),
+        Command::Run | Command::Replay | Command::Make => None,
     }
 }
 

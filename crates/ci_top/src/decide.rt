@@ -4,7 +4,7 @@ ghost use Rattle.ci_base.specs.declared.bounds.TheConstants.{MOST_FILES, MOST_SO
 ghost use Rattle.ci_source.specs.Telling.{IsRefusedAs};
 ghost use Rattle.ci_tree.specs.Seen.{items_of};
 ghost use Rattle.ci_top.specs.Asked.{AreRefused, words_at};
-ghost use Rattle.ci_top.specs.Decisions.{Decided, OfRun, OfSources, OfTrees};
+ghost use Rattle.ci_top.specs.Decisions.{Decided, OfCompiled, OfList, OfRun, OfSources};
 
 use crate::accept::{Job, accept};
 use crate::decision::Decision;
@@ -12,13 +12,14 @@ use crate::fetch::{fetch_all, name_of};
 use crate::run::run;
 use ci_base::bounds::MOST_SOURCE_BYTES;
 use ci_base::{Bytes, place_of};
+use ci_codegen::generate;
 use ci_outside::Shelf;
-use ci_source::{Fault, FormFault, SourceFault, first_form, read_sources};
-use ci_tree::FileTrees;
+use ci_source::{Compiled, Fault, FormFault, SourceFault, first_form, read_sources};
+use ci_tree::{FileTrees, Project};
 use std::alloc::Global;
 
-/// Reads the words, fetches the files that they name, reads these, and runs them or says that they compile. The first refusal ends
-/// the order.
+/// Reads the words, fetches the files that they name, reads these, and runs them, lists their code or says that they compile. The
+/// first refusal ends the order.
 pub(crate) fn decide<'w, S: Shelf>(alloc: Global, words: &'w [Bytes], shelf: &mut S) -> Decision<'w>
     ensures decided { Decided words.now (S.files shelf.old) (S.faults shelf.old) (S.faults shelf.new) result }
     ensures kept { S.files shelf.new ≡ S.files shelf.old }
@@ -51,7 +52,7 @@ fn read_all<'w>(
     ensures { OfSources job (words_at words.now indexes.now) sources.now result }
 {
     match read_sources(alloc, sources) {
-        Ok(compiled) => do_job(alloc, job, name_of(words, indexes, 0), &compiled.trees),
+        Ok(compiled) => do_job(alloc, job, name_of(words, indexes, 0), compiled),
         Err(
             SourceFault::Refused {
                 file,
@@ -83,13 +84,26 @@ fn source_refused<'w>(
     Decision::SourceRefused { name, fault, place }
 }
 
-/// Says that the trees were checked, or runs them. The first file has this name.
-fn do_job<'w>(alloc: Global, job: Job, name: &'w Bytes, trees: &FileTrees) -> Decision<'w>
-    ensures { OfTrees job name.now (map items_of trees.now) result }
+/// Says that what was read was checked, runs it, or lists its code. The first file has this name.
+fn do_job<'w>(alloc: Global, job: Job, name: &'w Bytes, compiled: Compiled) -> Decision<'w>
+    ensures { OfCompiled job name.now compiled result }
 {
+    // The project is dropped before the trees, as `Compiled` does it.
+    let Compiled { trees, project } = compiled;
     match job {
-        Job::Run => run_trees(alloc, name, trees),
+        Job::Run => run_trees(alloc, name, &trees),
         Job::Check => Decision::Checked,
+        Job::List => list(alloc, project),
+    }
+}
+
+/// The program of the project, whose code is to be listed.
+fn list<'w>(alloc: Global, project: Project) -> Decision<'w>
+    ensures { OfList project result }
+{
+    match generate(alloc, project) {
+        Ok(program) => Decision::Listed(program),
+        Err(_) => Decision::NoMemory,
     }
 }
 

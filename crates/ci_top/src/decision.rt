@@ -1,6 +1,7 @@
 //! What becomes of an order.
 use crate::run::Ran;
 use ci_base::{Bytes, Position};
+use ci_program::Program;
 use ci_source::Fault;
 use ci_words::WordFault;
 
@@ -38,6 +39,8 @@ pub(crate) enum Decision<'w> {
     FormRefused(&'w Bytes),
     /// The sources were checked, and compile.
     Checked,
+    /// The sources compile to this program, whose code is to be listed.
+    Listed(Program),
     NoMemory,
     Ran(Ran),
 }

@@ -7,8 +7,5 @@ use ci_base::Text;
 pub(crate) fn main_name() -> Text
     ensures { result ≡ codes "Main" }
 {
-    match Text::of(b"Main") {
-        Some(name) => name,
-        None => unreachable!(),
-    }
+    Text::of_few(b"Main")
 }

@@ -2,6 +2,7 @@
 #![tactic(auto)]
 
 mod accept;
+mod compiling;
 mod decide;
 mod decision;
 mod defaults;
@@ -14,6 +15,7 @@ mod run;
 mod tell;
 mod top;
 
+pub use compiling::{CompileFault, Sources, compile};
 pub use decision::FileFault;
 pub use outcome::Outcome;
 pub use top::{cicode, cicode_alone};

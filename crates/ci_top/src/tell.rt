@@ -6,6 +6,7 @@ ghost use Rattle.ci_top.specs.Decisions.{decision_text, decision_status, IsTold}
 
 use crate::decision::{Decision, FileFault};
 use ci_base::{Ending, Line, Position, put_u32};
+use ci_listing::write_listing;
 use ci_outside::{Failed, Sink, put_all, put_three, put_two};
 use ci_source::{Fault, fault_text as source_fault_text};
 use ci_words::{WordFault, fault_text as word_fault_text};
@@ -51,6 +52,7 @@ fn put_decision<K: Sink>(decision: &Decision, out: &mut K) -> Result<(), Failed>
             told_at(Fault::NotBuilt, &START).bytes(),
         ),
         Decision::Checked => put_all(out, b"ok\n"),
+        Decision::Listed(program) => write_listing(program.code(), out),
         Decision::NoMemory => put_all(out, b"out of memory\n"),
         Decision::Ran(ran) => ran.history.write_report(&ran.end, out),
     }
@@ -117,7 +119,7 @@ fn status_of(decision: &Decision) -> u8
         Decision::WordsRefused(_) | Decision::OrderNotBuilt => 2,
         Decision::NotFetched { fault, .. } => fault_number(*fault),
         Decision::SourceRefused { .. } | Decision::FormRefused(_) => 1,
-        Decision::Checked => 0,
+        Decision::Checked | Decision::Listed(_) => 0,
         Decision::NoMemory => 6,
         Decision::Ran(ran) => ending_number(ran.end.ending),
     }

@@ -8,13 +8,19 @@ const SHELF: [(&str, &[u8]); 2] = [
     ("b.ci", b"FUNCTION F()\n  nosuch = 1;\nEND"),
 ];
 
+/// The listing of the first source.
+const LISTING: &str =
+    "function 0 Main locals 0 room 1\n0 Tick\n1 Tick\n2 PushStr \"hi\"\n3 Ask Trace\n4 Drop\n5 PushInt 0\n6 Return\n";
+
 /// Words, the number of the fetch that fails, how much is put at once, the number of the put that fails, what is put in the
 /// end, and the status; 0 is no call.
-static ROWS: [(&str, u64, usize, u64, &str, u8); 11] = [
+static ROWS: [(&str, u64, usize, u64, &str, u8); 13] = [
     ("check a.ci", 0, 4096, 0, "ok\n", 0),
     ("check a.ci b.ci", 0, 4096, 0, "b.ci:2:3: name unknown\n", 1),
     ("run", 1, 4096, 0, "words 1: no file\n", 2),
-    ("list a.ci", 1, 4096, 0, "words 0: form not built\n", 2),
+    ("make 1", 1, 4096, 0, "words 0: form not built\n", 2),
+    ("list a.ci", 0, 4096, 0, LISTING, 0),
+    ("list a.ci b.ci", 0, 4096, 0, "b.ci:2:3: name unknown\n", 1),
     (
         "run a.ci --workers 1",
         1,
