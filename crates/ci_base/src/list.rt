@@ -47,6 +47,13 @@ impl LooseList {
         }
     }
 
+    /// The list with these members, by rising numbers of tasks. Takes no memory.
+    pub fn of(members: Vec<Loose>) -> LooseList
+        ensures { result ≡ members.items }
+    {
+        LooseList { kept: members }
+    }
+
     /// Whether both are the same.
     pub fn is_same(&self, other: &LooseList) -> bool
         ensures { IsTrue result ↔ (self.now ≡ other.now) }

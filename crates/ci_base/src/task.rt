@@ -177,6 +177,13 @@ impl Woken {
         }
     }
 
+    /// Drops all deliveries.
+    pub fn clear(&mut self)
+        ensures { self.new ≡ [] }
+    {
+        self.kept.clear();
+    }
+
     /// Adds the delivery at the end.
     pub fn add(&mut self, delivery: Delivery)
         requires { length self.old < MOST_LIVE_TASKS }
