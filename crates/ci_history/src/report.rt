@@ -1,5 +1,5 @@
 //! The report of a run.
-ghost use Rattle.std.specs.Prelude.{◌≡◌, ◌+◌, ◌≤◌, ◌++◌, length, decimal, codes};
+ghost use Rattle.std.specs.Prelude.{◌≡◌, ◌+◌, ◌≤◌, ◌++◌, [], length, decimal, codes, IfSome, IsNone};
 ghost use Rattle.std.specs.Fmt.{signed_decimal};
 ghost use Rattle.std.specs.List.{flat_map};
 ghost use Rattle.ci_base.specs.declared.bounds.TheConstants.{MOST_LINE_BYTES, MOST_TASKS};
@@ -25,6 +25,13 @@ impl History {
         put_tasks(end.tasks.members(), out)?;
         put_closing(self.entries().len() as u64, end, out)
     }
+
+    /// The line that closes the report of a run that ended so. Takes no memory.
+    pub fn closing_line(&self, end: &EndState) -> Line
+        ensures { result ≡ line_at_end (length self.now.entries) end.now.work end.now.instructions end.now.ending }
+    {
+        closing_line(self.entries().len() as u64, end)
+    }
 }
 
 /// Puts a line for each trace.
@@ -37,24 +44,28 @@ fn put_traces<K: Sink>(entries: &[Entry], out: &mut K) -> Result<(), Failed>
     Ok(())
 }
 
-/// Puts the line of an entry, which is empty for all but a trace.
+/// Puts the line of an entry, where it has one.
 fn put_entry<K: Sink>(entry: &Entry, out: &mut K) -> Result<(), Failed>
     ensures { Puts K.bytes K.faults out.old out.new result (entry_line entry.now) }
 {
-    put_all(out, line_of(entry).bytes())
+    match line_of(entry) {
+        Some(line) => put_all(out, line.bytes()),
+        None => put_all(out, b""),
+    }
 }
 
-/// The line of an entry, which is empty for all but a trace.
-fn line_of(entry: &Entry) -> Line
-    ensures { result ≡ entry_line entry.now }
+/// The line of a trace, and of no other entry.
+fn line_of(entry: &Entry) -> Option<Line>
+    ensures some { IfSome result (λ line. line ≡ entry_line entry.now) }
+    ensures none { IsNone result → entry_line entry.now ≡ [] }
 {
     match entry {
         Entry::Ask {
             task,
             request: Request::Trace { text },
             ..
-        } => trace_line(*task, text),
-        _ => Line::empty(),
+        } => Some(trace_line(*task, text)),
+        _ => None,
     }
 }
 
