@@ -1,5 +1,5 @@
 -- Requests, with what becomes of the asker.
-use Rattle.std.proofs.Common.{◌≡◌, ℕ, zero, suc, ℤ, pos, negsuc, Bool, true, false, cond, List, [], ◌∷◌, length, Option, Some, None, refl, sym, ap, ◌∙◌, subst, inl, inr, map, true≢false, eq-eqb, eqb}
+use Rattle.std.proofs.Common.{Contains, ◌≡◌, ℕ, zero, suc, ℤ, pos, negsuc, Bool, true, false, cond, List, [], ◌∷◌, length, Option, Some, None, refl, sym, ap, ◌∙◌, subst, inl, inr, map, true≢false, eq-eqb, eqb}
 use Rattle.std.specs.Prelude.{slice_get, ◌==◌, nat_eq, nat_lt, nat_le, ◌||◌}
 use Rattle.ci_base.specs.declared.bounds.TheConstants.{MOST_COUNT, MOST_OBJECTS}
 use Rattle.ci_base.specs.declared.event.EventReply.{EventReply}
@@ -15,8 +15,9 @@ use Rattle.ci_base.specs.Requests.{Fits, IsPlainAnswer}
 use Rattle.ci_base.specs.Values.{kind_of}
 use Rattle.ci_shared.proofs.Fair.{Fair, fair_gone, fair_only, fair_waits, nobody}
 use Rattle.ci_shared.proofs.Fit.{AreFit, SameOrWoke, answers_changes, given_fit}
+use Rattle.ci_shared.proofs.Named.{first_named, none_named, the_one}
 use Rattle.ci_shared.proofs.Seats.{leaves_seated, standing_set}
-use Rattle.ci_shared.specs.Laws.{FitsPlace, IsFormed, Keeps, Other, Own, Same, seat_of, victim, woken}
+use Rattle.ci_shared.specs.Laws.{FitsPlace, IsFormed, Keeps, Other, Own, Same, seat_of, victims, woken}
 use Rattle.ci_shared.specs.Roster.{Ended, Killed, Ready, Roster, Standing, Waiting, is_live, leaves, standing_at}
 use Rattle.ci_shared.specs.Rows.{Answers, Attempt, Joins, Outcome, coded, element, given, plain}
 use Rattle.ci_shared.specs.Serving.{apply}
@@ -104,18 +105,15 @@ sleep_tells l q h now (pos (suc n)) unit = λ a e. h a (same_is a (coded 0) e)
 
 -- a request is served as it should be
 pub record Lawful (l : Basis) (u : ℕ) (q : Request) (s : Shared) (x : Served Reply) : Type 0 where
-  pub fair : Fair Reply (IsFormed l q) l (victim q) u s x
+  pub fair : Fair Reply (IsFormed l q) l (victims q) u s x
   pub own : IsFormed l q → (s' : Standing) × (standing_at x.shared.roster u ≡ Some s') × Own l q x.reply s' × (woken u x.deliveries ≡ [])
-
-no_one : (n : ℕ) → None ≡ Some n → ⊥
-no_one n e = cc
 
 ready_waits : (p : Place) → Ready ≡ Waiting p → ⊥
 ready_waits p e = cc
 
 module _ (l : Basis) (s : Shared) (k : Keeps l s) (u : ℕ) (ready : standing_at s.roster u ≡ Some Ready) where
   -- the asker is untouched, and answered
-  lawful : (q : Request) (new : Shared) (a : Answer) (ds : List Delivery) (b : Option Birth) → (victim q ≡ Some u → ⊥) → (IsFormed l q → Fits l.kinds q a) → Fair Reply (IsFormed l q) l (victim q) 0 s (record { shared = new; reply = replies.Answer a; deliveries = ds; birth = b }) →
+  lawful : (q : Request) (new : Shared) (a : Answer) (ds : List Delivery) (b : Option Birth) → (Contains (victims q) u → ⊥) → (IsFormed l q → Fits l.kinds q a) → Fair Reply (IsFormed l q) l (victims q) 0 s (record { shared = new; reply = replies.Answer a; deliveries = ds; birth = b }) →
       Lawful l u q s (record { shared = new; reply = replies.Answer a; deliveries = ds; birth = b })
   lawful q new a ds b alive fits f = record {
     fair = record { others = λ t st n is. f.others t st (nobody s.roster t st is) is; keeps = f.keeps; answers = f.answers; grows = f.grows };
@@ -125,26 +123,26 @@ module _ (l : Basis) (s : Shared) (k : Keeps l s) (u : ℕ) (ready : standing_at
         (s', at, (same_one.0, fits formed), same_one.1);
   }
     where
-      untouched : (s' : Standing) (g : List Answer) → Other (victim q) u Ready s' g → Same Ready s' g
+      untouched : (s' : Standing) (g : List Answer) → Other (victims q) u Ready s' g → Same Ready s' g
       untouched s' g (inl h) = h
       untouched s' g (inr (inl h)) = absurd (ready_waits h.0 h.2)
       untouched s' g (inr (inr h)) = absurd (alive h.0)
 
   -- the asker gets a value and a code
-  lawful_told : (q : Request) (x : Served EventReply) → (victim q ≡ Some u → ⊥) → ((y : EventReply) → Fits l.kinds q (plain y)) → Fair EventReply (IsFormed l q) l (victim q) 0 s x → Lawful l u q s (as_reply x)
+  lawful_told : (q : Request) (x : Served EventReply) → (Contains (victims q) u → ⊥) → ((y : EventReply) → Fits l.kinds q (plain y)) → Fair EventReply (IsFormed l q) l (victims q) 0 s x → Lawful l u q s (as_reply x)
   lawful_told q x alive fits f = lawful q x.shared (plain x.reply) x.deliveries x.birth alive (λ formed. fits x.reply) (record { others = f.others; keeps = f.keeps; answers = f.answers; grows = f.grows })
 
   -- the asker gets an answer, or waits; nothing else changes but objects
-  lawful_outcome : (q : Request) (new : Shared) (o : Outcome) → (victim q ≡ Some u → ⊥) → new.roster ≡ s.roster → map kind_of new.cells ≡ l.kinds → (IsFormed l q → Tells l q o) → Lawful l u q s (attempted new u o)
-  lawful_outcome q new (Answers a) alive e kinds fits = lawful q new a [] None alive fits (fair_only l s k (IsFormed l q) (victim q) 0 new (replies.Answer a) e (λ formed. kinds))
+  lawful_outcome : (q : Request) (new : Shared) (o : Outcome) → (Contains (victims q) u → ⊥) → new.roster ≡ s.roster → map kind_of new.cells ≡ l.kinds → (IsFormed l q → Tells l q o) → Lawful l u q s (attempted new u o)
+  lawful_outcome q new (Answers a) alive e kinds fits = lawful q new a [] None alive fits (fair_only l s k (IsFormed l q) (victims q) 0 new (replies.Answer a) e (λ formed. kinds))
   lawful_outcome q new (Joins p limit) alive e kinds fits = record {
-    fair = fair_waits l s k (IsFormed l q) (victim q) u new p limit ready e kinds;
+    fair = fair_waits l s k (IsFormed l q) (victims q) u new p limit ready e kinds;
     own = λ formed. (Waiting p, standing_set new.roster.tasks u Ready (Waiting p) (ap (λ (c : Roster). standing_at c u) e ∙ ready), (p, refl, fits formed), refl);
   }
 
   lawful_gone : (q : Request) (y : Standing) → seat_of (Some y) ≡ [] → is_live y ≡ false → Lawful l u q s (Steps.gone y u s replies.Ends)
   lawful_gone q y out dead = record {
-    fair = fair_gone l s k (IsFormed l q) (victim q) u _ _ y u ds out dead (inr refl) refl k.kinds fit;
+    fair = fair_gone l s k (IsFormed l q) (victims q) u _ _ y u ds out dead (inr refl) refl k.kinds fit;
     own = λ formed.
         let (s', at, h) = answers_changes ds (leaves y u s.roster) u y fit (standing_set s.roster.tasks u Ready y ready) in
         let same_one : Same y s' (woken u ds) = stays s' (woken u ds) h in
@@ -179,38 +177,38 @@ module _ (l : Basis) (s : Shared) (k : Keeps l s) (u : ℕ) (ready : standing_at
       kind_at (c ∷ cs) (suc n) e = kind_at cs n e
 
   write_lawful : (cell : ℕ) (v : Value) → Lawful l u (requests.Write cell v) s (said (Steps.written s cell v) (coded 0))
-  write_lawful cell v = lawful (requests.Write cell v) (Steps.written s cell v) (plain (coded 0)) [] None (no_one u) (λ formed. refl) (fair_only l s k _ None 0 _ _ refl (λ formed. rows.kinds_set s.cells cell v (kind_of v) refl (ap (λ (z : List Kind). slice_get z cell) k.kinds ∙ formed) ∙ k.kinds))
+  write_lawful cell v = lawful (requests.Write cell v) (Steps.written s cell v) (plain (coded 0)) [] None (none_named u) (λ formed. refl) (fair_only l s k _ [] 0 _ _ refl (λ formed. rows.kinds_set s.cells cell v (kind_of v) refl (ap (λ (z : List Kind). slice_get z cell) k.kinds ∙ formed) ∙ k.kinds))
 
   kill_lawful : (n : ℤ) (b : Bool) → eqb (whole n) u ≡ b → Lawful l u (requests.TaskKill n) s (cond b (Steps.gone Killed u s replies.Ends) (as_reply (Steps.kill s (whole n))))
   kill_lawful n true e = lawful_gone (requests.TaskKill n) Killed refl refl
-  kill_lawful n false e = lawful_told (requests.TaskKill n) _ alive plain_is (rows.kill_fair l s k _ _ 0 (whole n) refl)
+  kill_lawful n false e = lawful_told (requests.TaskKill n) _ alive plain_is (rows.kill_fair l s k _ _ 0 (whole n) (first_named (whole n) []))
     where
-      alive : Some (whole n) ≡ Some u → ⊥
-      alive h = let same_one : whole n ≡ u = cc h in true≢false (sym (eq-eqb (whole n) u same_one) ∙ e)
+      alive : Contains (whole n ∷ []) u → ⊥
+      alive named = true≢false (sym (eq-eqb (whole n) u (the_one (whole n) u named)) ∙ e)
 
   -- all requests
   pub asked_lawful : (q : Request) → Lawful l u q s (apply l s u q)
   unfolding apply
-  asked_lawful (requests.Read cell) = lawful_outcome (requests.Read cell) s (Steps.read (slice_get s.cells cell)) (no_one u) refl k.kinds (read_tells cell (slice_get s.cells cell) refl)
+  asked_lawful (requests.Read cell) = lawful_outcome (requests.Read cell) s (Steps.read (slice_get s.cells cell)) (none_named u) refl k.kinds (read_tells cell (slice_get s.cells cell) refl)
   asked_lawful (requests.Write cell v) = write_lawful cell v
-  asked_lawful (requests.TaskNew name list mode) = lawful_told _ _ (no_one u) plain_is (rows.start_fair l s k _ None 0 name list)
+  asked_lawful (requests.TaskNew name list mode) = lawful_told _ _ (none_named u) plain_is (rows.start_fair l s k _ [] 0 name list)
   asked_lawful (requests.TaskKill n) = kill_lawful n (nat_eq (whole n) u) refl
-  asked_lawful (requests.TaskSuspend n) = lawful_told _ _ (no_one u) plain_is (rows.mark_fair l s k _ None 0 true (whole n))
-  asked_lawful (requests.TaskResume n) = lawful_told _ _ (no_one u) plain_is (rows.mark_fair l s k _ None 0 false (whole n))
-  asked_lawful (requests.TaskHnd name) = lawful_told _ _ (no_one u) plain_is (rows.still l s k _ None 0 s _ refl k.kinds)
-  asked_lawful (requests.Sleep n) = lawful_outcome (requests.Sleep n) s _ (no_one u) refl k.kinds (λ formed. sleep_tells l (requests.Sleep n) (λ a e. e) s.clock n 1000)
-  asked_lawful (requests.SleepMS n) = lawful_outcome (requests.SleepMS n) s _ (no_one u) refl k.kinds (λ formed. sleep_tells l (requests.SleepMS n) (λ a e. e) s.clock n 1)
-  asked_lawful (requests.SemOpen name mode) = lawful_told _ _ (no_one u) plain_is (rows.still l s k _ None 0 _ _ refl k.kinds)
-  asked_lawful (requests.SemWait h n) = lawful_outcome (requests.SemWait h n) _ _ (no_one u) refl k.kinds (λ formed. (wait_for_tells l h n h s.clock s.semaphores (sems.semaphore_of h s.semaphores)).tells)
-  asked_lawful (requests.SemSignal h) = lawful_told _ _ (no_one u) plain_is (rows.by_semaphores_fair l s k _ None 0 _ (rows.signal_fit s.roster k.seated h s.semaphores))
-  asked_lawful (requests.SemClose h) = lawful_told _ _ (no_one u) plain_is (rows.by_semaphores_fair l s k _ None 0 _ (rows.sem_close_fit s.roster k.seated h s.semaphores))
-  asked_lawful (requests.QueOpen name mode) = lawful_told _ _ (no_one u) plain_is (rows.still l s k _ None 0 _ _ refl k.kinds)
-  asked_lawful (requests.QueWrite h sort text) = lawful_told _ _ (no_one u) plain_is (rows.by_queues_fair l s k _ None 0 _ (rows.write_fit s.roster k.seated h sort text s.queues))
-  asked_lawful (requests.QueRead h mode) = lawful_outcome (requests.QueRead h mode) _ _ (no_one u) refl k.kinds (λ formed. (read_from_tells l h mode h s.queues (queues.queue_of h s.queues)).tells)
-  asked_lawful (requests.QueLength h) = lawful_told _ _ (no_one u) plain_is (rows.still l s k _ None 0 s _ refl k.kinds)
-  asked_lawful (requests.QueClose h) = lawful_told _ _ (no_one u) plain_is (rows.by_queues_fair l s k _ None 0 _ (rows.que_close_fit s.roster k.seated h s.queues))
-  asked_lawful (requests.Enter name) = lawful_outcome (requests.Enter name) _ _ (no_one u) refl k.kinds (λ formed. (enter_tells l u name s.sections).tells)
-  asked_lawful (requests.Leave name) = lawful_told _ _ (no_one u) plain_is (rows.by_sections_fair l s k _ None 0 _ (rows.depart_fit s.roster k.seated u name s.sections))
-  asked_lawful (requests.Trace text) = lawful_told _ _ (no_one u) plain_is (rows.still l s k _ None 0 s _ refl k.kinds)
-  asked_lawful requests.SysTime = lawful_told _ _ (no_one u) plain_is (rows.still l s k _ None 0 s _ refl k.kinds)
+  asked_lawful (requests.TaskSuspend n) = lawful_told _ _ (none_named u) plain_is (rows.mark_fair l s k _ [] 0 true (whole n))
+  asked_lawful (requests.TaskResume n) = lawful_told _ _ (none_named u) plain_is (rows.mark_fair l s k _ [] 0 false (whole n))
+  asked_lawful (requests.TaskHnd name) = lawful_told _ _ (none_named u) plain_is (rows.still l s k _ [] 0 s _ refl k.kinds)
+  asked_lawful (requests.Sleep n) = lawful_outcome (requests.Sleep n) s _ (none_named u) refl k.kinds (λ formed. sleep_tells l (requests.Sleep n) (λ a e. e) s.clock n 1000)
+  asked_lawful (requests.SleepMS n) = lawful_outcome (requests.SleepMS n) s _ (none_named u) refl k.kinds (λ formed. sleep_tells l (requests.SleepMS n) (λ a e. e) s.clock n 1)
+  asked_lawful (requests.SemOpen name mode) = lawful_told _ _ (none_named u) plain_is (rows.still l s k _ [] 0 _ _ refl k.kinds)
+  asked_lawful (requests.SemWait h n) = lawful_outcome (requests.SemWait h n) _ _ (none_named u) refl k.kinds (λ formed. (wait_for_tells l h n h s.clock s.semaphores (sems.semaphore_of h s.semaphores)).tells)
+  asked_lawful (requests.SemSignal h) = lawful_told _ _ (none_named u) plain_is (rows.by_semaphores_fair l s k _ [] 0 _ (rows.signal_fit s.roster k.seated h s.semaphores))
+  asked_lawful (requests.SemClose h) = lawful_told _ _ (none_named u) plain_is (rows.by_semaphores_fair l s k _ [] 0 _ (rows.sem_close_fit s.roster k.seated h s.semaphores))
+  asked_lawful (requests.QueOpen name mode) = lawful_told _ _ (none_named u) plain_is (rows.still l s k _ [] 0 _ _ refl k.kinds)
+  asked_lawful (requests.QueWrite h sort text) = lawful_told _ _ (none_named u) plain_is (rows.by_queues_fair l s k _ [] 0 _ (rows.write_fit s.roster k.seated h sort text s.queues))
+  asked_lawful (requests.QueRead h mode) = lawful_outcome (requests.QueRead h mode) _ _ (none_named u) refl k.kinds (λ formed. (read_from_tells l h mode h s.queues (queues.queue_of h s.queues)).tells)
+  asked_lawful (requests.QueLength h) = lawful_told _ _ (none_named u) plain_is (rows.still l s k _ [] 0 s _ refl k.kinds)
+  asked_lawful (requests.QueClose h) = lawful_told _ _ (none_named u) plain_is (rows.by_queues_fair l s k _ [] 0 _ (rows.que_close_fit s.roster k.seated h s.queues))
+  asked_lawful (requests.Enter name) = lawful_outcome (requests.Enter name) _ _ (none_named u) refl k.kinds (λ formed. (enter_tells l u name s.sections).tells)
+  asked_lawful (requests.Leave name) = lawful_told _ _ (none_named u) plain_is (rows.by_sections_fair l s k _ [] 0 _ (rows.depart_fit s.roster k.seated u name s.sections))
+  asked_lawful (requests.Trace text) = lawful_told _ _ (none_named u) plain_is (rows.still l s k _ [] 0 s _ refl k.kinds)
+  asked_lawful requests.SysTime = lawful_told _ _ (none_named u) plain_is (rows.still l s k _ [] 0 s _ refl k.kinds)
   asked_lawful (requests.End code) = lawful_gone (requests.End code) (Ended code) refl refl

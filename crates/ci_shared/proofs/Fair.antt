@@ -1,5 +1,5 @@
 -- What each row owes, and the five shapes of a row.
-use Rattle.std.proofs.Common.{◌≡◌, ◌≢◌, ◌⊎◌, ◌<◌, ◌≤◌, ◌++◌, ℕ, zero, suc, Bool, true, false, cond, List, [], ◌∷◌, length, Option, Some, None, refl, sym, ap, ◌∙◌, subst, inl, inr, map, arith}
+use Rattle.std.proofs.Common.{Contains, ◌≡◌, ◌≢◌, ◌⊎◌, ◌<◌, ◌≤◌, ◌++◌, ℕ, zero, suc, Bool, true, false, cond, List, [], ◌∷◌, length, Option, Some, None, refl, sym, ap, ◌∙◌, subst, inl, inr, map, arith}
 use Rattle.std.proofs.lemmas.Bool.{or_parts, leb-false}
 use Rattle.std.specs.Prelude.{nat_le}
 use Rattle.ci_base.specs.declared.bounds.TheConstants.{MOST_LIVE_TASKS, MOST_TASKS}
@@ -22,16 +22,16 @@ use Rattle.ci_shared.specs.Started.{Basis, Starts, fresh}
 use Rattle.ci_shared.specs.State.{Served, Shared, attempted, only}
 use Rattle.ci_shared.specs.Steps.{start}
 
--- all but the asker u change as they may, with v the named one; the invariant is kept, where F holds
-pub record Fair (R : Type 0) (F : Type 0) (l : Basis) (v : Option ℕ) (u : ℕ) (s : Shared) (x : Served R) : Type 0 where
-  pub others : (t : ℕ) (st : Standing) → t ≢ u → standing_at s.roster t ≡ Some st → (st' : Standing) × (standing_at x.shared.roster t ≡ Some st') × Other v t st st' (woken t x.deliveries)
+-- all but the asker u change as they may, with vs those that may be killed; the invariant is kept, where F holds
+pub record Fair (R : Type 0) (F : Type 0) (l : Basis) (vs : List ℕ) (u : ℕ) (s : Shared) (x : Served R) : Type 0 where
+  pub others : (t : ℕ) (st : Standing) → t ≢ u → standing_at s.roster t ≡ Some st → (st' : Standing) × (standing_at x.shared.roster t ≡ Some st') × Other vs t st st' (woken t x.deliveries)
   pub keeps : F → Keeps l x.shared
   pub answers : AllWaited s.roster x.deliveries × (length x.deliveries ≤ length s.roster.waiting)
   pub grows : Grows l s.roster.tasks x.shared.roster.tasks x.birth
 
-widen : (v : Option ℕ) (t : ℕ) (s s' : Standing) (g : List Answer) → SameOrWoke s s' g → Other v t s s' g
-widen v t s s' g (inl h) = inl h
-widen v t s s' g (inr h) = inr (inl h)
+widen : (vs : List ℕ) (t : ℕ) (s s' : Standing) (g : List Answer) → SameOrWoke s s' g → Other vs t s s' g
+widen vs t s s' g (inl h) = inl h
+widen vs t s s' g (inr h) = inr (inl h)
 
 place_pushed_from : (xs : List Task) (y : Task) (n : ℕ) → y.standing ≡ Ready → seat_of (standing_from (xs ++ y ∷ []) n) ≡ seat_of (standing_from xs n)
 place_pushed_from [] y zero e = ap (λ (r : Standing). seat_of (Some r)) e
@@ -47,25 +47,25 @@ pub nobody : (c : Roster) (t : ℕ) (st : Standing) → standing_at c t ≡ Some
 nobody c zero st e same = absurd (cc)
 nobody c (suc n) st e same = absurd (cc)
 
-module _ (l : Basis) (s : Shared) (k : Keeps l s) (F : Type 0) (v : Option ℕ) (u : ℕ) where
+module _ (l : Basis) (s : Shared) (k : Keeps l s) (F : Type 0) (vs : List ℕ) (u : ℕ) where
   -- some are answered, else nobody changes
-  pub fair_answers : {R : Type 0} (new : Shared) (r : R) (ds : List Delivery) → new.roster ≡ after_answers ds s.roster → (F → map kind_of new.cells ≡ l.kinds) → AreFit s.roster ds → Fair R F l v u s (record { shared = new; reply = r; deliveries = ds; birth = None })
+  pub fair_answers : {R : Type 0} (new : Shared) (r : R) (ds : List Delivery) → new.roster ≡ after_answers ds s.roster → (F → map kind_of new.cells ≡ l.kinds) → AreFit s.roster ds → Fair R F l vs u s (record { shared = new; reply = r; deliveries = ds; birth = None })
   fair_answers new r ds e kinds fit = record {
     others = λ t st n is.
         let (st', at, h) = answers_changes ds s.roster t st fit is in
-        (st', ap (λ (c : Roster). standing_at c t) e ∙ at, widen v t st st' (woken t ds) h);
+        (st', ap (λ (c : Roster). standing_at c t) e ∙ at, widen vs t st st' (woken t ds) h);
     keeps = λ f. record { seated = subst (λ (c : Roster). Seated c) (sym e) (answers_seated ds s.roster k.seated); few = subst (λ (m : ℕ). m ≤ MOST_LIVE_TASKS) (sym (ap (λ (c : Roster). count_live c.tasks) e ∙ answers_live ds s.roster fit)) k.few; kinds = kinds f };
     answers = (all_waited ds s.roster fit, answers_few ds s.roster k.seated fit);
     grows = ap (λ (c : Roster). functions c.tasks) e ∙ answers_functions ds s.roster;
   }
 
   -- nobody changes
-  pub fair_only : {R : Type 0} (new : Shared) (r : R) → new.roster ≡ s.roster → (F → map kind_of new.cells ≡ l.kinds) → Fair R F l v u s (only new r)
+  pub fair_only : {R : Type 0} (new : Shared) (r : R) → new.roster ≡ s.roster → (F → map kind_of new.cells ≡ l.kinds) → Fair R F l vs u s (only new r)
   fair_only new r e kinds = fair_answers new r [] e kinds tt
 
   -- one is no longer live, and some are answered
-  pub fair_gone : {R : Type 0} (new : Shared) (r : R) (y : Standing) (n : ℕ) (ds : List Delivery) → seat_of (Some y) ≡ [] → is_live y ≡ false → (v ≡ Some n) ⊎ (n ≡ u) → new.roster ≡ after_answers ds (leaves y n s.roster) → map kind_of new.cells ≡ l.kinds → AreFit (leaves y n s.roster) ds →
-      Fair R F l v u s (record { shared = new; reply = r; deliveries = ds; birth = None })
+  pub fair_gone : {R : Type 0} (new : Shared) (r : R) (y : Standing) (n : ℕ) (ds : List Delivery) → seat_of (Some y) ≡ [] → is_live y ≡ false → Contains vs n ⊎ (n ≡ u) → new.roster ≡ after_answers ds (leaves y n s.roster) → map kind_of new.cells ≡ l.kinds → AreFit (leaves y n s.roster) ds →
+      Fair R F l vs u s (record { shared = new; reply = r; deliveries = ds; birth = None })
   fair_gone new r y n ds out dead who e kinds fit = record {
     others = λ t st o is. elim (decide t n) [
       | inl same ↦
@@ -74,7 +74,7 @@ module _ (l : Basis) (s : Shared) (k : Keeps l s) (F : Type 0) (v : Option ℕ) 
           (st', ap (λ (c : Roster). standing_at c t) e ∙ at, inr (inr (died t st' same o h))))
       | inr m ↦
           (let (st', at, h) = answers_changes ds (leaves y n s.roster) t st fit (standing_other s.roster.tasks n t y m ∙ is) in
-          (st', ap (λ (c : Roster). standing_at c t) e ∙ at, widen v t st st' (woken t ds) h))
+          (st', ap (λ (c : Roster). standing_at c t) e ∙ at, widen vs t st st' (woken t ds) h))
     ];
     keeps = λ f. record { seated = subst (λ (c : Roster). Seated c) (sym e) (answers_seated ds (leaves y n s.roster) (leaves_seated s.roster n y out k.seated)); few = fewer_now; kinds = kinds };
     answers = (all_before ds s.roster n y out (all_waited ds (leaves y n s.roster) fit), shorter_now);
@@ -94,19 +94,19 @@ module _ (l : Basis) (s : Shared) (k : Keeps l s) (F : Type 0) (v : Option ℕ) 
           let b : length (without n s.roster.waiting) ≤ length s.roster.waiting = no_longer n s.roster.waiting in
           omega (arith, a, b)
 
-      named_one : (t : ℕ) → t ≡ n → t ≢ u → (v ≡ Some n) ⊎ (n ≡ u) → v ≡ Some t
-      named_one t same o (inl w) = w ∙ ap (λ (m : ℕ). Some m) (sym same)
+      named_one : (t : ℕ) → t ≡ n → t ≢ u → Contains vs n ⊎ (n ≡ u) → Contains vs t
+      named_one t same o (inl w) = subst (λ (m : ℕ). Contains vs m) (sym same) w
       named_one t same o (inr w) = absurd (o (same ∙ w))
 
       placed : (p : Place) → y ≡ Waiting p → ⊥
       placed p w = let bad : p ∷ [] ≡ [] = sym (ap (λ (z : Standing). seat_of (Some z)) w) ∙ out in cc bad
 
-      died : (t : ℕ) (st' : Standing) → t ≡ n → t ≢ u → SameOrWoke y st' (woken t ds) → Died v t st' (woken t ds)
+      died : (t : ℕ) (st' : Standing) → t ≡ n → t ≢ u → SameOrWoke y st' (woken t ds) → Died vs t st' (woken t ds)
       died t st' same o (inl h) = (named_one t same o who, ap (λ (z : Standing). is_live z) h.0 ∙ dead, h.1)
       died t st' same o (inr h) = absurd (placed h.0 h.2)
 
   -- the asker waits
-  pub fair_waits : (new : Shared) (p : Place) (limit : Option ℕ) → standing_at s.roster u ≡ Some Ready → new.roster ≡ s.roster → map kind_of new.cells ≡ l.kinds → Fair Reply F l v u s (attempted new u (Joins p limit))
+  pub fair_waits : (new : Shared) (p : Place) (limit : Option ℕ) → standing_at s.roster u ≡ Some Ready → new.roster ≡ s.roster → map kind_of new.cells ≡ l.kinds → Fair Reply F l vs u s (attempted new u (Joins p limit))
   fair_waits new p limit ready e kinds = record {
     others = λ t st n is. (st, ap (λ (c : Roster). standing_at (joins u p limit c) t) e ∙ standing_other s.roster.tasks u t (Waiting p) n ∙ is, inl (refl, refl));
     keeps = λ f. record { seated = subst (λ (c : Roster). Seated (joins u p limit c)) (sym e) (joins_seated s.roster u p limit ready k.seated); few = subst (λ (m : ℕ). m ≤ MOST_LIVE_TASKS) (sym (ap (λ (c : Roster). count_live (joins u p limit c).tasks) e ∙ same_live s.roster.tasks u Ready (Waiting p) ready refl)) k.few; kinds = kinds };
@@ -115,7 +115,7 @@ module _ (l : Basis) (s : Shared) (k : Keeps l s) (F : Type 0) (v : Option ℕ) 
   }
 
   -- a task is born
-  pub fair_born : (b : Birth) (list : List ℕ) → b.task ≡ suc (length s.roster.tasks) → b.function < length l.functions → is_full s.roster.tasks ≡ false → arguments l.functions b.function list ≡ Some b.args → Fair EventReply F l v u s (start s (Starts b))
+  pub fair_born : (b : Birth) (list : List ℕ) → b.task ≡ suc (length s.roster.tasks) → b.function < length l.functions → is_full s.roster.tasks ≡ false → arguments l.functions b.function list ≡ Some b.args → Fair EventReply F l vs u s (start s (Starts b))
   fair_born b list next below free fits = record {
     others = λ t st n is. (st, standing_pushed s.roster.tasks _ t st is, inl (refl, refl));
     keeps = λ g. record { seated = λ t. k.seated t ∙ sym (place_pushed s.roster.tasks (fresh b.function) t refl); few = born_few; kinds = k.kinds };
@@ -130,7 +130,7 @@ module _ (l : Basis) (s : Shared) (k : Keeps l s) (F : Type 0) (v : Option ℕ) 
           omega (arith, room, more)
 
   -- a mark of suspension
-  pub fair_mark : (b : Bool) (n : ℕ) (r : EventReply) → Fair EventReply F l v u s (only (record s { roster = record { tasks = change_task (with_mark b) n s.roster.tasks; waiting = s.roster.waiting } }) r)
+  pub fair_mark : (b : Bool) (n : ℕ) (r : EventReply) → Fair EventReply F l vs u s (only (record s { roster = record { tasks = change_task (with_mark b) n s.roster.tasks; waiting = s.roster.waiting } }) r)
   fair_mark b n r = record {
     others = λ t st o is. (st, standing_marked b s.roster.tasks n t ∙ is, inl (refl, refl));
     keeps = λ f. record { seated = λ t. k.seated t ∙ ap seat_of (sym (standing_marked b s.roster.tasks n t)); few = subst (λ (m : ℕ). m ≤ MOST_LIVE_TASKS) (sym (marked_live b s.roster.tasks n)) k.few; kinds = k.kinds };
@@ -138,6 +138,6 @@ module _ (l : Basis) (s : Shared) (k : Keeps l s) (F : Type 0) (v : Option ℕ) 
     grows = same_functions (with_mark b) (λ x. refl) s.roster.tasks n;
   }
 
-  pub fair_if : {R : Type 0} (b : Bool) (x y : Served R) → Fair R F l v u s x → Fair R F l v u s y → Fair R F l v u s (cond b x y)
+  pub fair_if : {R : Type 0} (b : Bool) (x y : Served R) → Fair R F l vs u s x → Fair R F l vs u s y → Fair R F l vs u s (cond b x y)
   fair_if true x y hx hy = hx
   fair_if false x y hx hy = hy

@@ -8,10 +8,12 @@ pub mod First
 pub mod Fit
 pub mod Fitted
 pub mod Lines
+pub mod Named
 pub mod Numbering
 pub mod Numbers
 pub mod Opening
 pub mod Orders
 pub mod Owed
+pub mod Owners
 pub mod Proved
 pub mod Seats

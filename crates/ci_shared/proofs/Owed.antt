@@ -1,5 +1,5 @@
 -- What the rows of the tables owe: each answer goes to a task that waits for it, and fits its place.
-use Rattle.std.proofs.Common.{◌≡◌, ◌<◌, ◌+◌, ℕ, zero, suc, ℤ, Bool, true, false, cond, List, [], ◌∷◌, length, Option, Some, None, refl, sym, ap, ◌∙◌, subst, inl, inr, map, arith}
+use Rattle.std.proofs.Common.{Contains, ◌≡◌, ◌<◌, ◌+◌, ℕ, zero, suc, ℤ, Bool, true, false, cond, List, [], ◌∷◌, length, Option, Some, None, refl, sym, ap, ◌∙◌, subst, inl, inr, map, arith}
 use Rattle.std.specs.Prelude.{slice_get, slice_set, ◌&&◌, not, nat_eq, nat_lt, nat_le}
 use Rattle.std.specs.Str.{str_eq_ignore_ascii_case}
 use Rattle.ci_base.specs.declared.bounds.TheConstants.{MOST_COUNT, MOST_ELEMENTS}
@@ -141,58 +141,58 @@ public_below n name (h ∷ hs) f e = by (h.public && str_eq_ignore_ascii_case na
     by true more i = let here : n ≡ f = cc i in omega (arith, here)
     by false more i = let h = more i in omega (arith, h)
 
-module _ (l : Basis) (s : Shared) (k : Keeps l s) (F : Type 0) (v : Option ℕ) (u : ℕ) where
+module _ (l : Basis) (s : Shared) (k : Keeps l s) (F : Type 0) (vs : List ℕ) (u : ℕ) where
   -- the tables
-  pub by_semaphores_fair : (r : Row (List Semaphore)) → FitRow s.roster r → Fair EventReply F l v u s (Steps.by_semaphores s r)
-  by_semaphores_fair r h = fair_answers l s k F v u _ _ r.deliveries refl (λ f. k.kinds) h.fit
+  pub by_semaphores_fair : (r : Row (List Semaphore)) → FitRow s.roster r → Fair EventReply F l vs u s (Steps.by_semaphores s r)
+  by_semaphores_fair r h = fair_answers l s k F vs u _ _ r.deliveries refl (λ f. k.kinds) h.fit
 
-  pub by_queues_fair : (r : Row (List queues.Queue)) → FitRow s.roster r → Fair EventReply F l v u s (Steps.by_queues s r)
-  by_queues_fair r h = fair_answers l s k F v u _ _ r.deliveries refl (λ f. k.kinds) h.fit
+  pub by_queues_fair : (r : Row (List queues.Queue)) → FitRow s.roster r → Fair EventReply F l vs u s (Steps.by_queues s r)
+  by_queues_fair r h = fair_answers l s k F vs u _ _ r.deliveries refl (λ f. k.kinds) h.fit
 
-  pub by_sections_fair : (r : Row (List Section)) → FitRow s.roster r → Fair EventReply F l v u s (Steps.by_sections s r)
-  by_sections_fair r h = fair_answers l s k F v u _ _ r.deliveries refl (λ f. k.kinds) h.fit
+  pub by_sections_fair : (r : Row (List Section)) → FitRow s.roster r → Fair EventReply F l vs u s (Steps.by_sections s r)
+  by_sections_fair r h = fair_answers l s k F vs u _ _ r.deliveries refl (λ f. k.kinds) h.fit
 
   -- nothing changes but objects
-  pub still : (new : Shared) (r : EventReply) → new.roster ≡ s.roster → map kind_of new.cells ≡ l.kinds → Fair EventReply F l v u s (only new r)
-  still new r e kinds = fair_only l s k F v u new r e (λ f. kinds)
+  pub still : (new : Shared) (r : EventReply) → new.roster ≡ s.roster → map kind_of new.cells ≡ l.kinds → Fair EventReply F l vs u s (only new r)
+  still new r e kinds = fair_only l s k F vs u new r e (λ f. kinds)
 
   -- tasks
-  spawn_with_fair : (f : ℕ) (list : List ℕ) (o : Option (List Value)) → f < length l.functions → arguments l.functions f list ≡ o → Fair EventReply F l v u s (Steps.start s (spawn_with s.roster.tasks f o))
+  spawn_with_fair : (f : ℕ) (list : List ℕ) (o : Option (List Value)) → f < length l.functions → arguments l.functions f list ≡ o → Fair EventReply F l vs u s (Steps.start s (spawn_with s.roster.tasks f o))
   spawn_with_fair f list None below e = still _ _ refl k.kinds
   spawn_with_fair f list (Some args) below e = by (is_full s.roster.tasks) refl
     where
       b : Birth
       b = record { task = suc (length s.roster.tasks); function = f; args = args }
 
-      by : (full : Bool) → is_full s.roster.tasks ≡ full → Fair EventReply F l v u s (Steps.start s (cond full (Refused 11) (Starts (record { task = suc (length s.roster.tasks); function = f; args = args }))))
+      by : (full : Bool) → is_full s.roster.tasks ≡ full → Fair EventReply F l vs u s (Steps.start s (cond full (Refused 11) (Starts (record { task = suc (length s.roster.tasks); function = f; args = args }))))
       by true full = still _ _ refl k.kinds
-      by false full = fair_born l s k F v u _ list refl below full e
+      by false full = fair_born l s k F vs u _ list refl below full e
 
-  spawn_of_fair : (name list : List ℕ) (o : Option ℕ) → public_from 0 name l.functions ≡ o → Fair EventReply F l v u s (Steps.start s (spawn_of l.functions s.roster.tasks list o))
+  spawn_of_fair : (name list : List ℕ) (o : Option ℕ) → public_from 0 name l.functions ≡ o → Fair EventReply F l vs u s (Steps.start s (spawn_of l.functions s.roster.tasks list o))
   spawn_of_fair name list None e = still _ _ refl k.kinds
   spawn_of_fair name list (Some f) e = let below : f < 0 + length l.functions = public_below 0 name l.functions f e in spawn_with_fair f list (arguments l.functions f list) (omega (arith, below)) refl
 
-  pub start_fair : (name list : List ℕ) → Fair EventReply F l v u s (Steps.start s (spawn l.functions s.roster.tasks name list))
+  pub start_fair : (name list : List ℕ) → Fair EventReply F l vs u s (Steps.start s (spawn l.functions s.roster.tasks name list))
   start_fair name list = spawn_of_fair name list (public_from 0 name l.functions) refl
 
-  pub kill_fair : (n : ℕ) → v ≡ Some n → Fair EventReply F l v u s (Steps.kill s n)
-  kill_fair n e = fair_if l s k F v u _ _ _ (fair_gone l s k F v u _ _ Killed n _ refl refl (inl e) refl k.kinds (given_fit _ s.sections (leaves Killed n s.roster) (leaves_seated s.roster n Killed refl k.seated))) (still _ _ refl k.kinds)
+  pub kill_fair : (n : ℕ) → Contains vs n → Fair EventReply F l vs u s (Steps.kill s n)
+  kill_fair n named = fair_if l s k F vs u _ _ _ (fair_gone l s k F vs u _ _ Killed n _ refl refl (inl named) refl k.kinds (given_fit _ s.sections (leaves Killed n s.roster) (leaves_seated s.roster n Killed refl k.seated))) (still _ _ refl k.kinds)
 
-  pub mark_fair : (b : Bool) (n : ℕ) → Fair EventReply F l v u s (Steps.mark b s n)
-  mark_fair b n = fair_if l s k F v u _ _ _ (fair_mark l s k F v u b n (coded 0)) (still _ _ refl k.kinds)
+  pub mark_fair : (b : Bool) (n : ℕ) → Fair EventReply F l vs u s (Steps.mark b s n)
+  mark_fair b n = fair_if l s k F vs u _ _ _ (fair_mark l s k F vs u b n (coded 0)) (still _ _ refl k.kinds)
 
   -- events
-  pub tick_fair : (ms : ℕ) → Fair EventReply F l v u s (Steps.tick s ms)
-  tick_fair ms = fair_answers l s k F v u _ _ _ refl (λ f. k.kinds) (due_fit _ s.roster k.seated)
+  pub tick_fair : (ms : ℕ) → Fair EventReply F l vs u s (Steps.tick s ms)
+  tick_fair ms = fair_answers l s k F vs u _ _ _ refl (λ f. k.kinds) (due_fit _ s.roster k.seated)
 
-  set_kind_fair : (w : Value) (cell : ℕ) (o : Option Kind) → slice_get l.kinds cell ≡ o → Fair EventReply F l v u s (Steps.set_kind s w cell o)
+  set_kind_fair : (w : Value) (cell : ℕ) (o : Option Kind) → slice_get l.kinds cell ≡ o → Fair EventReply F l vs u s (Steps.set_kind s w cell o)
   set_kind_fair w cell None e = still _ _ refl k.kinds
   set_kind_fair w cell (Some kind) e = by (same_kind kind (kind_of w)) refl
     where
-      by : (b : Bool) → same_kind kind (kind_of w) ≡ b → Fair EventReply F l v u s (cond b (only (Steps.written s cell w) (coded 0)) (only s (coded 10)))
+      by : (b : Bool) → same_kind kind (kind_of w) ≡ b → Fair EventReply F l vs u s (cond b (only (Steps.written s cell w) (coded 0)) (only s (coded 10)))
       by true is = still _ _ refl (kinds_set s.cells cell w kind (kind_same kind (kind_of w) is) (ap (λ (z : List Kind). slice_get z cell) k.kinds ∙ e) ∙ k.kinds)
       by false is = still _ _ refl k.kinds
 
-  pub set_cell_fair : (w : Value) (o : Option ℕ) → Fair EventReply F l v u s (Steps.set_cell l s w o)
+  pub set_cell_fair : (w : Value) (o : Option ℕ) → Fair EventReply F l vs u s (Steps.set_cell l s w o)
   set_cell_fair w None = still _ _ refl k.kinds
   set_cell_fair w (Some cell) = set_kind_fair w cell (slice_get l.kinds cell) refl

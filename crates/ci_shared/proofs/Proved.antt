@@ -6,7 +6,8 @@ use Rattle.ci_base.specs.declared.event.EventReply.{EventReply}
 use Rattle.ci_shared.proofs.Asks.{asked_lawful}
 use Rattle.ci_shared.proofs.Counting.{room_to_wait, waiting_live}
 use Rattle.ci_shared.proofs.Fair.{Fair, nobody}
-use Rattle.ci_shared.specs.Laws.{AskAnswers, AskGrows, AskKeeps, Keeps, OpeningKeeps, OtherAsk, OtherScript, OwnAsk, RoomToWait, ScriptAnswers, ScriptGrows, ScriptKeeps, opening, seat_of, victim_of}
+use Rattle.ci_shared.proofs.Named.{first_named}
+use Rattle.ci_shared.specs.Laws.{AskAnswers, AskGrows, AskKeeps, Keeps, OpeningKeeps, OtherAsk, OtherScript, OwnAsk, RoomToWait, ScriptAnswers, ScriptGrows, ScriptKeeps, opening, seat_of, victims_of}
 use Rattle.ci_shared.specs.Queues.{queue_named}
 use Rattle.ci_shared.specs.Roster.{count_live, standing_at}
 use Rattle.ci_shared.specs.Semaphores.{semaphore_named}
@@ -20,16 +21,16 @@ use Rattle.ci_base.specs.declared.place.Place.TheVariants as places
 use Rattle.ci_shared.proofs.Owed as rows
 
 -- all events
-scripted_fair : (l : Basis) (s : Shared) → Keeps l s → (e : EventKind) → Fair EventReply (Unit {0}) l (victim_of e) 0 s (script l s e)
+scripted_fair : (l : Basis) (s : Shared) → Keeps l s → (e : EventKind) → Fair EventReply (Unit {0}) l (victims_of e) 0 s (script l s e)
 unfolding script
-scripted_fair l s k (events.Run name list) = rows.start_fair l s k _ None 0 name list
-scripted_fair l s k (events.Tick ms) = rows.tick_fair l s k _ None 0 (whole ms)
-scripted_fair l s k (events.Kill n) = rows.kill_fair l s k _ _ 0 (whole n) refl
-scripted_fair l s k (events.Suspend n) = rows.mark_fair l s k _ None 0 true (whole n)
-scripted_fair l s k (events.Resume n) = rows.mark_fair l s k _ None 0 false (whole n)
-scripted_fair l s k (events.Put name sort text) = rows.by_queues_fair l s k _ None 0 _ (rows.put_named_fit s.roster k.seated sort text s.queues (queue_named name s.queues))
-scripted_fair l s k (events.Signal name) = rows.by_semaphores_fair l s k _ None 0 _ (rows.signal_named_fit s.roster k.seated s.semaphores (semaphore_named name s.semaphores))
-scripted_fair l s k (events.Set name v) = rows.set_cell_fair l s k _ None 0 v (cell_named name l.globals)
+scripted_fair l s k (events.Run name list) = rows.start_fair l s k _ [] 0 name list
+scripted_fair l s k (events.Tick ms) = rows.tick_fair l s k _ [] 0 (whole ms)
+scripted_fair l s k (events.Kill n) = rows.kill_fair l s k _ _ 0 (whole n) (first_named (whole n) [])
+scripted_fair l s k (events.Suspend n) = rows.mark_fair l s k _ [] 0 true (whole n)
+scripted_fair l s k (events.Resume n) = rows.mark_fair l s k _ [] 0 false (whole n)
+scripted_fair l s k (events.Put name sort text) = rows.by_queues_fair l s k _ [] 0 _ (rows.put_named_fit s.roster k.seated sort text s.queues (queue_named name s.queues))
+scripted_fair l s k (events.Signal name) = rows.by_semaphores_fair l s k _ [] 0 _ (rows.signal_named_fit s.roster k.seated s.semaphores (semaphore_named name s.semaphores))
+scripted_fair l s k (events.Set name v) = rows.set_cell_fair l s k _ [] 0 v (cell_named name l.globals)
 
 pub other_ask : OtherAsk
 other_ask l s u q t x k ready n is = (asked_lawful l s k u ready q).fair.others t x n is

@@ -1,6 +1,6 @@
 -- What serving does to each task, and what it keeps.
 use Rattle.std.specs.Prelude.{true, ◌≡◌, ◌≢◌, ◌≤◌, ◌<◌, ◌+◌, ◌⊎◌, ℕ, suc, ℤ, pos, ◌≤ℤ◌, ◌<ℤ◌, false, if◌then◌else◌, nat_eq, List, [], ◌∷◌, ◌++◌, length, map, Option, None, Some, slice_get}
-use Rattle.std.specs.List.{All}
+use Rattle.std.specs.List.{All, Contains}
 use Rattle.ci_base.specs.declared.bounds.TheConstants.{MOST_LIVE_TASKS}
 use Rattle.ci_base.specs.declared.event.EventKind.{EventKind}
 use Rattle.ci_base.specs.declared.event.EventKind.TheVariants as events
@@ -21,8 +21,9 @@ use Rattle.ci_base.specs.Values.{kind_of}
 use Rattle.ci_shared.specs.declared.object.Section.{Section}
 use Rattle.ci_shared.specs.declared.waiter.Waiter.{Waiter}
 use Rattle.ci_shared.specs.Arguments.{arguments}
-use Rattle.ci_shared.specs.Roster.{Standing, Ready, Waiting, Ended, Killed, Task, Roster, standing_at, is_live, is_full, count_live, seats, is_sooner, by_limit}
+use Rattle.ci_shared.specs.Roster.{Standing, Ready, Waiting, Ended, Killed, Task, Roster, standing_at, is_live, is_full, count_live, seats, is_sooner, by_limit, first_in}
 use Rattle.ci_shared.specs.Rows.{coded, plain, element}
+use Rattle.ci_shared.specs.Sections.{section_of}
 use Rattle.ci_shared.specs.Serving.{apply, script}
 use Rattle.ci_shared.specs.Started.{Basis, fresh}
 use Rattle.ci_shared.specs.State.{Shared}
@@ -72,22 +73,22 @@ Same x x' got = (x' ≡ x) × (got ≡ [])
 abbrev pub Woke : Standing → Standing → List Answer → Type 0
 Woke x x' got = (p : Place) × (a : Answer) × (x ≡ Waiting p) × (x' ≡ Ready) × (got ≡ a ∷ []) × FitsPlace p a
 
--- the one task that a request or an event may kill
-abbrev pub victim : Request → Option ℕ
-victim (requests.TaskKill n) = Some (whole n)
-victim _ = None
+-- the tasks that a request or an event may kill
+abbrev pub victims : Request → List ℕ
+victims (requests.TaskKill n) = whole n ∷ []
+victims _ = []
 
-abbrev pub victim_of : EventKind → Option ℕ
-victim_of (events.Kill n) = Some (whole n)
-victim_of _ = None
+abbrev pub victims_of : EventKind → List ℕ
+victims_of (events.Kill n) = whole n ∷ []
+victims_of _ = []
 
--- it is that one, and is dead
-abbrev pub Died : Option ℕ → ℕ → Standing → List Answer → Type 0
-Died v t x' got = (v ≡ Some t) × (is_live x' ≡ false) × (got ≡ [])
+-- it is one of these, and is dead
+abbrev pub Died : List ℕ → ℕ → Standing → List Answer → Type 0
+Died vs t x' got = Contains vs t × (is_live x' ≡ false) × (got ≡ [])
 
 -- what may happen to a task that doesn't ask
-abbrev pub Other : Option ℕ → ℕ → Standing → Standing → List Answer → Type 0
-Other v t x x' got = Same x x' got ⊎ (Woke x x' got ⊎ Died v t x' got)
+abbrev pub Other : List ℕ → ℕ → Standing → Standing → List Answer → Type 0
+Other vs t x x' got = Same x x' got ⊎ (Woke x x' got ⊎ Died vs t x' got)
 
 -- what may happen to the task that asks
 abbrev pub Own : Basis → Request → Reply → Standing → Type 0
@@ -114,7 +115,7 @@ Grows b old new (Some birth) =
 -- the laws: of a request of a ready task, and of an event
 abbrev pub OtherAsk : Type 0
 OtherAsk = (b : Basis) (s : Shared) (u : ℕ) (q : Request) (t : ℕ) (x : Standing) → Keeps b s → standing_at s.roster u ≡ Some Ready → t ≢ u → standing_at s.roster t ≡ Some x →
-    (x' : Standing) × (standing_at (apply b s u q).shared.roster t ≡ Some x') × Other (victim q) t x x' (woken t (apply b s u q).deliveries)
+    (x' : Standing) × (standing_at (apply b s u q).shared.roster t ≡ Some x') × Other (victims q) t x x' (woken t (apply b s u q).deliveries)
 
 abbrev pub OwnAsk : Type 0
 OwnAsk = (b : Basis) (s : Shared) (u : ℕ) (q : Request) → Keeps b s → IsFormed b q → standing_at s.roster u ≡ Some Ready →
@@ -122,7 +123,7 @@ OwnAsk = (b : Basis) (s : Shared) (u : ℕ) (q : Request) → Keeps b s → IsFo
 
 abbrev pub OtherScript : Type 0
 OtherScript = (b : Basis) (s : Shared) (e : EventKind) (t : ℕ) (x : Standing) → Keeps b s → standing_at s.roster t ≡ Some x →
-    (x' : Standing) × (standing_at (script b s e).shared.roster t ≡ Some x') × Other (victim_of e) t x x' (woken t (script b s e).deliveries)
+    (x' : Standing) × (standing_at (script b s e).shared.roster t ≡ Some x') × Other (victims_of e) t x x' (woken t (script b s e).deliveries)
 
 abbrev pub AskGrows : Type 0
 AskGrows = (b : Basis) (s : Shared) (u : ℕ) (q : Request) → Keeps b s → standing_at s.roster u ≡ Some Ready → Grows b s.roster.tasks (apply b s u q).shared.roster.tasks (apply b s u q).birth
@@ -180,6 +181,27 @@ AskOrders = (b : Basis) (s : Shared) (u : ℕ) (q : Request) → Ordered s.secti
 
 abbrev pub ScriptOrders : Type 0
 ScriptOrders = (b : Basis) (s : Shared) (e : EventKind) → Ordered s.sections → Ordered (script b s e).shared.sections
+
+-- a task stands in the line of the section of this name
+abbrev pub IsAwaited : List ℕ → List Waiter → Type 0
+IsAwaited name ws = (w : Waiter) × (first_in (places.Section name) ws ≡ Some w)
+
+-- a task owns it
+abbrev pub IsOwned : List ℕ → List Section → Type 0
+IsOwned name xs = (x : Section) × (section_of name xs ≡ Some x)
+
+-- who waits for a section waits for one that is owned
+abbrev pub AwaitedAreOwned : Shared → Type 0
+AwaitedAreOwned s = (name : List ℕ) → IsAwaited name s.roster.waiting → IsOwned name s.sections
+
+abbrev pub AskOwns : Type 0
+AskOwns = (b : Basis) (s : Shared) (u : ℕ) (q : Request) → AwaitedAreOwned s → AwaitedAreOwned (apply b s u q).shared
+
+abbrev pub ScriptOwns : Type 0
+ScriptOwns = (b : Basis) (s : Shared) (e : EventKind) → AwaitedAreOwned s → AwaitedAreOwned (script b s e).shared
+
+abbrev pub OpeningOwns : Type 0
+OpeningOwns = (cells : List Value) → AwaitedAreOwned (opening cells)
 
 -- those that a tick answers come by limit and then by task
 abbrev pub AllLater : Waiter → List Waiter → Type 0

@@ -1,8 +1,9 @@
 //! Laws of serving, for those who use the definitions without looking into them. The functions do nothing: what they
 //! ensure is the law.
-ghost use Rattle.ci_shared.specs.Laws.{OtherAsk, OwnAsk, OtherScript, AskGrows, ScriptGrows, AskKeeps, ScriptKeeps, OpeningKeeps, AskAnswers, ScriptAnswers, RoomToWait, AskClock, ScriptClock, AskOrders, ScriptOrders, DuesInOrder, AskNumbers, ScriptNumbers, OpeningNumbers, ArgumentsFit};
+ghost use Rattle.ci_shared.specs.Laws.{OtherAsk, OwnAsk, OtherScript, AskGrows, ScriptGrows, AskKeeps, ScriptKeeps, OpeningKeeps, AskAnswers, ScriptAnswers, RoomToWait, AskClock, ScriptClock, AskOrders, ScriptOrders, AskOwns, ScriptOwns, OpeningOwns, DuesInOrder, AskNumbers, ScriptNumbers, OpeningNumbers, ArgumentsFit};
 
-/// A request leaves a task that doesn't ask as it is, or answers it where it waited, or kills it where it names it.
+/// A request leaves a task that doesn't ask as it is, or answers it where it waited, or kills it where it is one of those
+/// that it may kill.
 pub fn other_ask()
     ensures { OtherAsk }
 {}
@@ -13,7 +14,7 @@ pub fn own_ask()
     ensures { OwnAsk }
 {}
 
-/// An event leaves a task as it is, or answers it where it waited, or kills it where it names it.
+/// An event leaves a task as it is, or answers it where it waited, or kills it where it is one of those that it may kill.
 pub fn other_script()
     ensures { OtherScript }
 {}
@@ -76,6 +77,21 @@ pub fn ask_orders()
 /// An event keeps the owned sections in the order of their names.
 pub fn script_orders()
     ensures { ScriptOrders }
+{}
+
+/// After a request each section that a task waits for is owned, where it was so before.
+pub fn ask_owns()
+    ensures { AskOwns }
+{}
+
+/// After an event each section that a task waits for is owned, where it was so before.
+pub fn script_owns()
+    ensures { ScriptOwns }
+{}
+
+/// At the beginning no task waits for a section.
+pub fn opening_owns()
+    ensures { OpeningOwns }
 {}
 
 /// Those that a tick answers come by their limits, and of one limit by their numbers.

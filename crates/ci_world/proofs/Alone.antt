@@ -15,7 +15,7 @@ use Rattle.ci_base.specs.Steps.{Stands}
 use Rattle.ci_meaning.specs.Configuration.{Configuration}
 use Rattle.ci_meaning.specs.Meaning.{next}
 use Rattle.ci_shared.proofs.Numbers.{decide}
-use Rattle.ci_shared.specs.Laws.{Other, victim, victim_of}
+use Rattle.ci_shared.specs.Laws.{Other, victims, victims_of}
 use Rattle.ci_shared.specs.Roster.{Standing, Ready, standing_at, is_live}
 use Rattle.ci_shared.specs.Serving.{apply}
 use Rattle.ci_world.proofs.Follow.{Goes, goes_step, goes_run}
@@ -158,10 +158,10 @@ pub one_run : (o : Origin) (limits : Limits) (s1 s2 : Progress) (a b : Ending) �
 one_run o limits s1 s2 a b (n, r, h) (m, r', g) = one_rounds o limits n m (opening_progress o) s1 s2 a b r h r' g
 
 -- a dead task stays dead
-still : (v : Option ℕ) (t : ℕ) (g : List Answer) (y z : Standing) → is_live y ≡ false → Other v t y z g → is_live z ≡ false
-still v t g y z dead (inl (same, none)) = ap is_live same ∙ dead
-still v t g y z dead (inr (inl (p, a, was, now, one, fit))) = let f : true ≡ false = ap is_live (sym was) ∙ dead in absurd (cc)
-still v t g y z dead (inr (inr (named, died, none))) = died
+still : (vs : List ℕ) (t : ℕ) (g : List Answer) (y z : Standing) → is_live y ≡ false → Other vs t y z g → is_live z ≡ false
+still vs t g y z dead (inl (same, none)) = ap is_live same ∙ dead
+still vs t g y z dead (inr (inl (p, a, was, now, one, fit))) = let f : true ≡ false = ap is_live (sym was) ∙ dead in absurd (cc)
+still vs t g y z dead (inr (inr (named, died, none))) = died
 
 ready_lives : (y : Standing) → Ready ≡ y → is_live y ≡ false → ⊥
 ready_lives y e dead = let f : true ≡ false = ap is_live e ∙ dead in cc
@@ -170,7 +170,7 @@ dead_step : (o : Origin) (h : List Entry) (v w : World) (e : Entry) (t : ℕ) �
 dead_step o h v w (entries.Script ev r) t goes step dead =
     let (y, yat, y_dead) = dead_standing v.common.shared t dead in
     let (z, zat, other) = other_script (basis o) v.common.shared goes.orderly ev.what t y yat in
-    (standing_dead w.common.shared t z (ap (λ (x : World). standing_at x.common.shared.roster t) step.new_is ∙ zat) (still (victim_of ev.what) t _ y z y_dead other), tt)
+    (standing_dead w.common.shared t z (ap (λ (x : World). standing_at x.common.shared.roster t) step.new_is ∙ zat) (still (victims_of ev.what) t _ y z y_dead other), tt)
 dead_step o h v w (entries.Ask u k q r) t goes step dead = by (dead_standing v.common.shared t dead) (decide t u)
   where
     ready : standing_at v.common.shared.roster u ≡ Some Ready
@@ -180,7 +180,7 @@ dead_step o h v w (entries.Ask u k q r) t goes step dead = by (dead_standing v.c
     by (y, yat, y_dead) (inl same) = absurd (ready_lives y (one_at Ready y (standing_at v.common.shared.roster u) ready (ap (λ (n : ℕ). standing_at v.common.shared.roster n) (sym same) ∙ yat)) y_dead)
     by (y, yat, y_dead) (inr n) =
         let (z, zat, other) = other_ask (basis o) v.common.shared goes.orderly u q ready t y n yat in
-        (standing_dead w.common.shared t z (ap (λ (x : World). standing_at x.common.shared.roster t) step.new_is ∙ zat) (still (victim q) t _ y z y_dead other), (λ e. n (sym e)))
+        (standing_dead w.common.shared t z (ap (λ (x : World). standing_at x.common.shared.roster t) step.new_is ∙ zat) (still (victims q) t _ y z y_dead other), (λ e. n (sym e)))
 
 pub dead_from : (o : Origin) (h more : List Entry) (v w : World) (t : ℕ) → Goes o h v → RunFrom o v more w → IsDead v.common.shared t → IsDead w.common.shared t × AllByRecursion (IsOfOthers t) more
 dead_from o h [] v w t goes run dead = (subst (λ (x : World). IsDead x.common.shared t) (sym run) dead, tt)

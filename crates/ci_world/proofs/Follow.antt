@@ -19,7 +19,7 @@ use Rattle.ci_tree.specs.Layouts.{head_of}
 use Rattle.ci_meaning.specs.Configuration.{Configuration, opening}
 use Rattle.ci_meaning.specs.Meaning.{next, resume}
 use Rattle.ci_shared.proofs.Numbers.{decide, eqb_same, eqb_apart}
-use Rattle.ci_shared.specs.Laws.{Other, Grows, victim, victim_of, woken}
+use Rattle.ci_shared.specs.Laws.{Other, Grows, victims, victims_of, woken}
 use Rattle.ci_shared.specs.Roster.{Standing, Ready, Waiting, Ended, Killed, Task, standing_in, standing_at, is_live}
 use Rattle.ci_shared.specs.Serving.{apply, script}
 use Rattle.ci_shared.specs.Started.{fresh}
@@ -93,16 +93,16 @@ module _ (o : Origin) where
   answered x b k q a c0 c is lt l st = (b, is, lt, (resume c a, comes_snoc o.project x.answers (opening o.project b.function b.args) c0 k q c a l st, refl))
 
   -- a task to which something happens keeps on its trail
-  other_comes : (v : Option ℕ) (t : ℕ) (x : Trail) (y z : Standing) (c : Configuration) (g : List Answer) → ComesAlong o x y c → Other v t y z g → ComesAlong o (with_answers x g) z (resumed c g)
-  other_comes v t x y z c g (b, is, lt, (c0, l, at)) (inl (same, none)) =
+  other_comes : (vs : List ℕ) (t : ℕ) (x : Trail) (y z : Standing) (c : Configuration) (g : List Answer) → ComesAlong o x y c → Other vs t y z g → ComesAlong o (with_answers x g) z (resumed c g)
+  other_comes vs t x y z c g (b, is, lt, (c0, l, at)) (inl (same, none)) =
       subst (λ (more : List Answer). ComesAlong o (with_answers x more) z (resumed c more)) (sym none)
       (unanswered x b z c0 c is lt l (subst (λ (s : Standing). IsAt o.project s c0 c) (sym same) at))
-  other_comes v t x y z c g (b, is, lt, (c0, l, at)) (inr (inl (p, a, was, now, one, fit))) =
+  other_comes vs t x y z c g (b, is, lt, (c0, l, at)) (inr (inl (p, a, was, now, one, fit))) =
       let (k, q, st) = subst (λ (s : Standing). IsAt o.project s c0 c) was at in
       subst (λ (more : List Answer). ComesAlong o (with_answers x more) z (resumed c more)) (sym one)
       (subst (λ (s : Standing). ComesAlong o (with_answers x (a ∷ [])) s (resume c a)) (sym now)
       (answered x b k q a c0 c is lt l st))
-  other_comes v t x y z c g (b, is, lt, (c0, l, at)) (inr (inr (named, dead, none))) =
+  other_comes vs t x y z c g (b, is, lt, (c0, l, at)) (inr (inr (named, dead, none))) =
       subst (λ (more : List Answer). ComesAlong o (with_answers x more) z (resumed c more)) (sym none)
       (unanswered x b z c0 c is lt l (dead_is_at o.project c0 c z dead))
 
@@ -240,7 +240,7 @@ follows_ask o h w w' u k q r orderly fol a = follows_after o h w w' (entries.Ask
             (owns.now, resumed a.at (woken u all), owns.at, at, subst (λ (g : List Answer). ComesAlong o (with_answers (trail o u h) g) owns.now (resumed a.at g)) (sym (asker_woken u y.reply y.deliveries owns.alone)) along)
         by (inr n) =
             let (z, zat, other) = other_ask (basis o) w.common.shared orderly u q ready t s n sat in
-            let along = other_comes o (victim q) t (trail o t h) s z c (woken t y.deliveries) (fol.each t s c sat cat) other in
+            let along = other_comes o (victims q) t (trail o t h) s z c (woken t y.deliveries) (fol.each t s c sat cat) other in
             let at : at_task (delivered cs all) t ≡ Some (resumed c (woken t all)) = at_delivered all cs t c (at_other w.configurations u t a.at n ∙ cat) in
             (z, resumed c (woken t all), zat, at, subst (λ (g : List Answer). ComesAlong o (with_answers (trail o t h) g) z (resumed c g)) (sym (other_woken t u y.reply y.deliveries n)) along)
 
@@ -259,7 +259,7 @@ follows_event o h w w' e r orderly fol a = follows_after o h w w' (entries.Scrip
     goes : (t : ℕ) (s : Standing) (c : Configuration) → standing_at w.common.shared.roster t ≡ Some s → at_task w.configurations t ≡ Some c → GoesTo o (trail o t h) (woken t y.deliveries) y.shared.roster.tasks (delivered w.configurations y.deliveries) t
     goes t s c sat cat =
         let (z, zat, other) = other_script (basis o) w.common.shared orderly e.what t s sat in
-        let along = other_comes o (victim_of e.what) t (trail o t h) s z c (woken t y.deliveries) (fol.each t s c sat cat) other in
+        let along = other_comes o (victims_of e.what) t (trail o t h) s z c (woken t y.deliveries) (fol.each t s c sat cat) other in
         (z, resumed c (woken t y.deliveries), zat, at_delivered y.deliveries w.configurations t c cat, along)
 
 -- the world after a history, whose shared state is orderly

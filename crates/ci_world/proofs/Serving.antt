@@ -15,7 +15,7 @@ use Rattle.ci_base.specs.declared.task.Delivery.{Delivery}
 use Rattle.ci_base.specs.declared.value.Kind.{Kind}
 use Rattle.ci_base.specs.declared.value.Value.{Value}
 use Rattle.ci_base.specs.Values.{kind_of}
-use Rattle.ci_shared.specs.Laws.{Keeps, Seated, Other, Own, Grows, victim, victim_of, woken, opening}
+use Rattle.ci_shared.specs.Laws.{Keeps, Seated, Other, Own, Grows, victims, victims_of, woken, opening}
 use Rattle.ci_shared.specs.Roster.{Standing, Ready, Waiting, Roster, Task, standing_at, is_live, count_live}
 use Rattle.ci_shared.specs.Serving.{apply, script}
 use Rattle.ci_shared.specs.Started.{Basis}
@@ -95,9 +95,9 @@ own_stands b q replies.Ends y h = h
 module _ (b : Basis) (s : Shared) (k : Orderly s) where
   module _ (u : ℕ) (q : Request) (ready : standing_at s.roster u ≡ Some Ready) where
     pub other_ask : (t : ℕ) (y : Standing) → t ≢ u → standing_at s.roster t ≡ Some y →
-        (z : Standing) × (standing_at (apply b s u q).shared.roster t ≡ Some z) × Other (victim q) t y z (woken t (apply b s u q).deliveries)
+        (z : Standing) × (standing_at (apply b s u q).shared.roster t ≡ Some z) × Other (victims q) t y z (woken t (apply b s u q).deliveries)
     other_ask t y n is =
-        subst (λ (x : Served Reply). (z : Standing) × (standing_at x.shared.roster t ≡ Some z) × Other (victim q) t y z (woken t x.deliveries)) (apply_fitted b s.cells s u q)
+        subst (λ (x : Served Reply). (z : Standing) × (standing_at x.shared.roster t ≡ Some z) × Other (victims q) t y z (woken t x.deliveries)) (apply_fitted b s.cells s u q)
         (laws.other_ask (fitted b s.cells) s u q t y (keeps b s k) ready n is)
 
     pub ask_grows : Grows b s.roster.tasks (apply b s u q).shared.roster.tasks (apply b s u q).birth
@@ -134,9 +134,9 @@ module _ (b : Basis) (s : Shared) (k : Orderly s) where
   ask_orderly u q ready = orderly_by u q (laws.ask_keeps (fitted b s.cells) s u q (keeps b s k) tt ready)
 
   pub other_script : (e : EventKind) (t : ℕ) (y : Standing) → standing_at s.roster t ≡ Some y →
-      (z : Standing) × (standing_at (script b s e).shared.roster t ≡ Some z) × Other (victim_of e) t y z (woken t (script b s e).deliveries)
+      (z : Standing) × (standing_at (script b s e).shared.roster t ≡ Some z) × Other (victims_of e) t y z (woken t (script b s e).deliveries)
   other_script e t y is =
-      subst (λ (x : Seen). (z : Standing) × (standing_at x.roster t ≡ Some z) × Other (victim_of e) t y z (woken t x.deliveries)) (script_fitted b s.cells s e)
+      subst (λ (x : Seen). (z : Standing) × (standing_at x.roster t ≡ Some z) × Other (victims_of e) t y z (woken t x.deliveries)) (script_fitted b s.cells s e)
       (laws.other_script (fitted b s.cells) s e t y (keeps b s k) is)
 
   pub script_grows : (e : EventKind) → Grows b s.roster.tasks (script b s e).shared.roster.tasks (script b s e).birth

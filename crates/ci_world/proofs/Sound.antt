@@ -17,7 +17,7 @@ use Rattle.ci_base.specs.Steps.{Reaches}
 use Rattle.ci_meaning.specs.Configuration.{Configuration, opening}
 use Rattle.ci_meaning.specs.Meaning.{next}
 use Rattle.ci_shared.proofs.Numbers.{decide}
-use Rattle.ci_shared.specs.Laws.{Other, Grows, victim, victim_of, woken}
+use Rattle.ci_shared.specs.Laws.{Other, Grows, victims, victims_of, woken}
 use Rattle.ci_shared.specs.Roster.{Standing, Ready, Waiting, Task, standing_in, standing_at, is_live}
 use Rattle.ci_shared.specs.Serving.{apply, script}
 use Rattle.ci_shared.specs.Started.{fresh}
@@ -86,12 +86,12 @@ ticks_after o old new cs ticks (Some b) (new_is, number, below, free, args) lc l
     split (inl p) (inr q) (inl r) = let w = at_within ticks t k r in absurd (omega (arith, w.1, q.0, lc, lt))
 
 -- a task that doesn't ask keeps its ticks
-other_ticks : (o : Origin) (v : Option ℕ) (t : ℕ) (y z : Standing) (c : Configuration) (k : ℕ) (g : List Answer) → HasTicks o y c k → Other v t y z g → HasTicks o z (resumed c g) k
-other_ticks o v t y z c k g has (inl (same, none)) =
+other_ticks : (o : Origin) (vs : List ℕ) (t : ℕ) (y z : Standing) (c : Configuration) (k : ℕ) (g : List Answer) → HasTicks o y c k → Other vs t y z g → HasTicks o z (resumed c g) k
+other_ticks o vs t y z c k g has (inl (same, none)) =
     subst (λ (l : List Answer). HasTicks o z (resumed c l) k) (sym none) (subst (λ (s : Standing). HasTicks o s c k) (sym same) has)
-other_ticks o v t y z c k g has (inr (inl (p, a, was, now, one, fit))) =
+other_ticks o vs t y z c k g has (inr (inl (p, a, was, now, one, fit))) =
     subst (λ (n : ℕ). HasTicks o z (resumed c g) n) (sym (has.waits p was)) (no_ticks o z (resumed c g))
-other_ticks o v t y z c k g has (inr (inr (named, dead, none))) =
+other_ticks o vs t y z c k g has (inr (inr (named, dead, none))) =
     subst (λ (l : List Answer). HasTicks o z (resumed c l) k) (sym none) (record { to = has.to; reaches = has.reaches; waits = λ p e. absurd (waiting_lives p e) })
   where
     waiting_lives : (p : _) → z ≡ Waiting p → ⊥
@@ -142,7 +142,7 @@ sound_ask o limits s u left s' left' reply snd can rest r = subst (λ (z : Progr
         let there : at_task (delivered cs all) t ≡ Some (resumed c0 (woken t all)) = at_delivered all cs t c0 (at_other s.world.configurations u t r.at n ∙ c0at) in
         let got : woken t all ≡ woken t served.deliveries = other_woken t u served.reply served.deliveries n in
         let has : HasTicks o z (resumed c0 (woken t served.deliveries)) k =
-        other_ticks o (victim r.request) t y z c0 k (woken t served.deliveries) (snd.ticks t y c0 k yat c0at (sym (at_other s.ticks u t 0 n) ∙ kat)) other in (
+        other_ticks o (victims r.request) t y z c0 k (woken t served.deliveries) (snd.ticks t y c0 k yat c0at (sym (at_other s.ticks u t 0 n) ∙ kat)) other in (
           z,
           zat,
           subst (λ (d : Configuration). HasTicks o z d k) (one_at (resumed c0 (woken t all)) c (at_task (delivered cs all) t) there cat)
@@ -178,7 +178,7 @@ sound_event o limits s e rest snd front due more = record {
         let within = standing_within s.world.common.shared.roster.tasks t y yat in
         let (c0, c0at) = at_there s.world.configurations t within.0 (omega (arith, within.1, goes.follows.many)) in
         let there = at_delivered served.deliveries s.world.configurations t c0 c0at in
-        let has : HasTicks o z (resumed c0 (woken t served.deliveries)) k = other_ticks o (victim_of e.what) t y z c0 k (woken t served.deliveries) (snd.ticks t y c0 k yat c0at kat) other in
+        let has : HasTicks o z (resumed c0 (woken t served.deliveries)) k = other_ticks o (victims_of e.what) t y z c0 k (woken t served.deliveries) (snd.ticks t y c0 k yat c0at kat) other in
         (z, zat, subst (λ (d : Configuration). HasTicks o z d k) (one_at (resumed c0 (woken t served.deliveries)) c (at_task (delivered s.world.configurations served.deliveries) t) there cat) has)
 
 -- the end of the ticks
