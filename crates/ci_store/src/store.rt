@@ -93,7 +93,7 @@ impl Store {
         ensures reply { result ≡ (apply self.old.basis self.old.shared task request.now).reply }
         ensures stored { self.new ≡ after self.old.basis (apply self.old.basis self.old.shared task request.now) }
     {
-        self.parts.woken = Woken::empty();
+        self.parts.woken.clear();
         self.parts.birth = None;
         serving::serve(&mut self.parts, task, request)
     }
@@ -104,7 +104,7 @@ impl Store {
         ensures reply { result ≡ (script self.old.basis self.old.shared event.now.what).reply }
         ensures stored { self.new ≡ after self.old.basis (script self.old.basis self.old.shared event.now.what) }
     {
-        self.parts.woken = Woken::empty();
+        self.parts.woken.clear();
         self.parts.birth = None;
         serving::happen(&mut self.parts, &event.what)
     }

@@ -15,9 +15,9 @@ formed : (c : After-serve) → IsFormed (basis_in c.self.inside.parts) c.args.re
 formed c = subst (λ (s : Stored). IsFormed s.basis c.args.request.now) (sym c.self.view_is) c.requires.formed
 
 pub invariant_of-self : goal.invariant_of-self
-invariant_of-self c = serve_sound c.self.inside.parts c.serve.new.parts c.self.invariant c.args.task c.args.request.now (ready c) (formed c) c.empty-self-inside.result c.serve.result c.serve.ensures
+invariant_of-self c = serve_sound c.self.inside.parts c.serve.new.parts c.self.invariant c.args.task c.args.request.now (ready c) (formed c) c.clear.new.self c.serve.result c.serve.ensures
 
 pub returns-clause-stored : goal.returns-clause-stored
 returns-clause-stored c =
-    serve_stored c.self.inside.parts c.serve.new.parts c.self.invariant c.args.task c.args.request.now (ready c) (formed c) c.empty-self-inside.result c.serve.result c.serve.ensures
+    serve_stored c.self.inside.parts c.serve.new.parts c.self.invariant c.args.task c.args.request.now (ready c) (formed c) c.clear.new.self c.serve.result c.serve.ensures
     ∙ ap (λ (s : Stored). after s.basis (apply s.basis s.shared c.args.task c.args.request.now)) c.self.view_is
