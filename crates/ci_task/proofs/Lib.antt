@@ -7,3 +7,4 @@ pub mod Leading
 pub mod Running
 pub mod Asking
 pub mod Moving
+pub mod Again

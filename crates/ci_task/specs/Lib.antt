@@ -4,3 +4,4 @@ pub mod Orders
 pub mod Going
 pub mod Running
 pub mod Moved
+pub mod Laws

@@ -8,6 +8,7 @@ mod behind;
 mod calls;
 mod heard;
 mod hot;
+pub mod laws;
 mod machine;
 mod operators;
 mod outcomes;
