@@ -1,9 +1,7 @@
 -- What a desk keeps at its beginning.
-use Rattle.std.proofs.Common.{◌≡◌, ◌<◌, ◌≤◌, ◌+◌, ◌*◌, ◌/◌, ℕ, zero, suc, true, List, [], ◌∷◌, length, map, drop, Option, Some, None, get_or, slice_get, refl, sym, ap, ◌∙◌, subst, arith, ltb-true}
-use Rattle.ci_base.specs.declared.event.Event.{Event}
+use Rattle.std.proofs.Common.{◌≡◌, ◌<◌, ◌/◌, ℕ, zero, suc, true, List, [], ◌∷◌, length, map, Some, None, get_or, slice_get, refl, sym, ap, ◌∙◌, subst, arith, ltb-true}
+use Rattle.std.proofs.lemmas.List.Elements.{All-nil}
 use Rattle.ci_base.specs.declared.layout.CellHead.{CellHead}
-use Rattle.ci_base.specs.declared.layout.Global.{Global}
-use Rattle.ci_base.specs.declared.layout.Head.{Head}
 use Rattle.ci_base.specs.declared.layout.Layout.{Layout}
 use Rattle.ci_base.specs.declared.limits.Limits.{Limits}
 use Rattle.ci_base.specs.declared.value.Kind.{Kind}
@@ -20,14 +18,14 @@ use Rattle.ci_runtime.specs.Notes.{nothing_noted}
 use Rattle.ci_script.specs.Scripts.{IsScript}
 use Rattle.ci_shared.proofs.Proved as laws
 use Rattle.ci_shared.specs.Laws as shared
-use Rattle.ci_shared.specs.Started.{Basis, basis_of}
-use Rattle.ci_store.specs.Stored.{IsUsable, Stored}
+use Rattle.ci_shared.specs.Started.{basis_of}
+use Rattle.ci_store.specs.Stored.{IsUsable}
 use Rattle.ci_tree.specs.Bound.{Cell}
 use Rattle.ci_tree.specs.Layouts.{cell_head_of, layout_of}
 use Rattle.ci_verify.proofs.Resumed.{all_there}
 use Rattle.ci_verify.specs.Rules.{NoneBroken, has_cell}
 use Rattle.ci_world.proofs.Lists.{at_there, at_within, none_at, one_at}
-use Rattle.ci_world.specs.Trails.{no_trail, trail, trail_from}
+use Rattle.ci_world.specs.Trails.{trail}
 use Rattle.ci_world.specs.World.{Origin, basis}
 
 module _ {A : Type 0} where
@@ -76,6 +74,7 @@ kept_first o code limits b has script store_is notes_is seats_is next_is work_is
   seated = record { many_ticks = refl; many_seats = refl; each = λ t y n seat yat nat at. absurd (none_at t n nat) };
   born = none_born code o;
   functions_are = refl;
+  named = All-nil (λ f. f < length code.layout.functions);
   work_is = refl;
   within = omega arith;
   room = omega arith;

@@ -1,9 +1,10 @@
 -- Each task that is started fits its function in the code, and there is room for it.
-use Rattle.std.proofs.Common.{◌≡◌, ◌<◌, ◌≤◌, ◌+◌, ◌++◌, ℕ, zero, suc, Bool, true, false, cond, List, [], ◌∷◌, length, map, count_by, Option, Some, None, slice_get, refl, sym, ap, ◌∙◌, subst, arith, eqb, length-append}
+use Rattle.std.proofs.Common.{◌≡◌, ◌<◌, ◌≤◌, ◌++◌, ℕ, suc, Bool, true, false, cond, List, [], ◌∷◌, length, map, count_by, Option, Some, None, slice_get, refl, sym, ap, ◌∙◌, subst, arith, eqb, length-append}
 use Rattle.std.proofs.lemmas.Bool.{or_parts, leb-false}
 use Rattle.std.proofs.lemmas.List.{length-map, map-append}
+use Rattle.std.proofs.lemmas.List.Elements.{All-append, All-cons, All-nil}
 use Rattle.std.proofs.lemmas.List.Sums.{sum_by-cons}
-use Rattle.std.specs.Prelude.{nat_le, IfSome}
+use Rattle.std.specs.Prelude.{nat_le, All}
 use Rattle.ci_base.specs.declared.bounds.TheConstants.{MOST_LIVE_TASKS, MOST_TASKS}
 use Rattle.ci_base.specs.declared.entry.Entry.{Entry}
 use Rattle.ci_base.specs.declared.layout.Head.{Head}
@@ -11,24 +12,21 @@ use Rattle.ci_base.specs.declared.layout.Layout.{Layout}
 use Rattle.ci_base.specs.declared.reply.Answer.{Answer}
 use Rattle.ci_base.specs.declared.task.Birth.{Birth}
 use Rattle.ci_base.specs.declared.task.Trail.{Trail}
-use Rattle.ci_base.specs.declared.value.Kind.{Kind}
-use Rattle.ci_base.specs.declared.value.Value.{Value}
 use Rattle.ci_base.specs.Values.{kind_of}
 use Rattle.ci_code.specs.declared.raw.RawParts.{RawParts}
 use Rattle.ci_code.specs.Code.{IsCode}
 use Rattle.ci_code.specs.Moves.{parameters_in}
 use Rattle.ci_runtime.specs.Along.{AllBorn, IsBorn}
 use Rattle.ci_runtime.specs.Notes.{functions_with}
-use Rattle.ci_runtime.specs.Seats.{Runner, Seat, is_taken, Changed, IsSeated, AreSeated, CanStart, CanBegin}
+use Rattle.ci_runtime.specs.Seats.{Seat, is_taken, Changed, IsSeated, AreSeated, CanBegin}
 use Rattle.ci_shared.proofs.Fitted.{arguments_fit}
 use Rattle.ci_shared.specs.Laws.{Grows, functions, woken}
-use Rattle.ci_shared.specs.Roster.{Standing, Ready, Waiting, Ended, Killed, Task, count_live, is_full, is_live, standing_in}
+use Rattle.ci_shared.specs.Roster.{Standing, Ready, Waiting, Ended, Killed, Task, count_live, is_full, is_live}
 use Rattle.ci_shared.specs.Started.{fresh}
 use Rattle.ci_task.specs.Moved.{ArgsFit}
 use Rattle.ci_tree.specs.Layouts.{layout_of}
-use Rattle.ci_world.proofs.Lists.{at_there, at_within, standing_at_task, standing_within}
+use Rattle.ci_world.proofs.Lists.{at_there, at_within, standing_at_task}
 use Rattle.ci_world.proofs.Served.{trail_snoc}
-use Rattle.ci_world.specs.Lists.{at_task}
 use Rattle.ci_world.specs.Trails.{common_after, next_by, told, trail, with_answers}
 use Rattle.ci_world.specs.World.{Origin, basis}
 
@@ -112,6 +110,14 @@ pub functions_after : (o : Origin) (old new : List Task) (birth : Option Birth) 
 functions_after o old new None noted g e = e ∙ sym g
 functions_after o old new (Some b) noted (new_is, number, below, free, args) e =
     ap (λ (l : List ℕ). l ++ b.function ∷ []) e ∙ sym (map-append (λ (x : Task). x.function) old (fresh b.function ∷ [])) ∙ ap functions (sym new_is)
+
+-- and are functions of the code
+pub named_after : (o : Origin) (code : RawParts) → code.layout ≡ layout_of o.project → (old new : List Task) (birth : Option Birth) (noted : List ℕ) → Grows (basis o) old new birth →
+    All (λ f. f < length code.layout.functions) noted → All (λ f. f < length code.layout.functions) (functions_with noted birth)
+named_after o code layout old new None noted g all = all
+named_after o code layout old new (Some b) noted g all =
+    let P : ℕ → Type 0 = λ f. f < length code.layout.functions in
+    All-append P noted (b.function ∷ []) all (All-cons P b.function [] (subst (λ (l : Layout). b.function < length l.functions) (sym layout) g.2) (All-nil P))
 
 -- where a task is started there is room for it
 pub can_begin : (o : Origin) (code : RawParts) → IsCode code → code.layout ≡ layout_of o.project → (h : List Entry) (old new : List Task) (ticks : List ℕ) (seats mid : List Seat) (birth : Option Birth) (t : ℕ) → Grows (basis o) old new birth → AreSeated code o h old ticks seats → Changed t seats mid → CanBegin code birth mid ticks

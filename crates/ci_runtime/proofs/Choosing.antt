@@ -1,5 +1,5 @@
 -- Finding the task whose turn is next among the live ones.
-use Rattle.std.proofs.Common.{◌≡◌, ◌≢◌, ◌<◌, ◌≤◌, ◌+◌, ◌++◌, ◌&&◌, ℕ, zero, suc, Bool, true, false, cond, List, [], ◌∷◌, length, drop, Option, None, Some, get_or, slice_get, refl, sym, ap, ◌∙◌, subst, arith, length-append, append_assoc, append-nil}
+use Rattle.std.proofs.Common.{◌≡◌, ◌<◌, ◌≤◌, ◌+◌, ◌++◌, ◌&&◌, ℕ, zero, suc, Bool, true, false, cond, List, [], ◌∷◌, length, drop, Option, None, Some, get_or, refl, sym, ap, ◌∙◌, subst, arith, length-append, append_assoc}
 use Rattle.std.specs.Option.{option_map_or}
 use Rattle.std.specs.Prelude.{nat_lt, not, option_map}
 use Rattle.ci_base.specs.declared.place.Status.{Status}
@@ -7,7 +7,7 @@ use Rattle.ci_base.specs.declared.place.Status.TheVariants as statuses
 use Rattle.ci_runtime.specs.Choosing.{is_able}
 use Rattle.ci_shared.specs.Roster.{Standing, Ready, Waiting, Ended, Killed, Task, is_live, standing_in, status_of}
 use Rattle.ci_store.specs.Stored.{live_tasks, mark_at}
-use Rattle.ci_world.proofs.Lists.{at_within, standing_at_task, task_standing}
+use Rattle.ci_world.proofs.Lists.{at_within, task_standing}
 use Rattle.ci_world.specs.Lists.{at_task}
 use Rattle.ci_world.specs.Serial.{first_above}
 use Rattle.ci_world.specs.Tasks.{can_step, is_ready}

@@ -1,5 +1,5 @@
 -- The count of instructions, entry by entry; and a machine moved along a trail is a machine of the code that has come along it.
-use Rattle.std.proofs.Common.{◌≡◌, ◌+◌, ◌≤◌, ◌++◌, ℕ, List, [], ◌∷◌, Option, Some, refl, sym, ap, ◌∙◌, subst, arith, append-nil, append_assoc, min}
+use Rattle.std.proofs.Common.{◌≡◌, ◌+◌, ◌≤◌, ◌++◌, ℕ, List, [], ◌∷◌, refl, sym, ap, subst, arith, append-nil, append_assoc, min}
 use Rattle.ci_base.specs.declared.bounds.TheConstants.{MOST_INSTRUCTIONS}
 use Rattle.ci_base.specs.declared.entry.Entry.{Entry}
 use Rattle.ci_base.specs.declared.entry.Entry.TheVariants as entries
@@ -8,7 +8,6 @@ use Rattle.ci_base.specs.declared.event.EventReply.{EventReply}
 use Rattle.ci_base.specs.declared.reply.Answer.{Answer}
 use Rattle.ci_base.specs.declared.reply.Reply.{Reply}
 use Rattle.ci_base.specs.declared.request.Request.{Request}
-use Rattle.ci_base.specs.declared.task.Trail.{Trail}
 use Rattle.ci_base.specs.Requests.{Fits}
 use Rattle.ci_code.specs.declared.raw.RawParts.{RawParts}
 use Rattle.ci_code.specs.Machine.{next, resume}
@@ -17,11 +16,9 @@ use Rattle.ci_runtime.proofs.Seating.{AtRequest}
 use Rattle.ci_runtime.specs.Along.{AllBorn, Along, LedAlong, kinds}
 use Rattle.ci_runtime.specs.Counting.{LedTo, CountsFrom, Counts}
 use Rattle.ci_runtime.specs.Seats.{Runner, Seat}
-use Rattle.ci_task.specs.declared.behind.Behind.{Behind}
 use Rattle.ci_task.specs.Moved as task
 use Rattle.ci_task.specs.Moved.{HasMoved, instructions_of, machine_of, moved, told_one}
 use Rattle.ci_translation.specs.Alike.{Led}
-use Rattle.ci_world.specs.Lists.{at_task}
 use Rattle.ci_world.specs.Trails.{trail}
 use Rattle.ci_world.specs.World.{Origin}
 

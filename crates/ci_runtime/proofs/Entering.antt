@@ -1,7 +1,7 @@
 -- What a desk has ready for the next entry.
-use Rattle.std.proofs.Common.{◌≡◌, ◌≢◌, ◌<◌, ◌≤◌, ◌+◌, ◌*◌, ◌-◌, ◌^◌, ℕ, zero, suc, true, List, [], ◌∷◌, length, drop, Option, None, Some, ◌++◌, length-append, slice_get, refl, sym, ap, ap₂, ◌∙◌, subst, arith}
+use Rattle.std.proofs.Common.{◌≡◌, ◌<◌, ◌≤◌, ◌+◌, ◌^◌, ℕ, zero, suc, List, [], ◌∷◌, length, drop, Option, None, Some, length-append, slice_get, refl, sym, ap, ◌∙◌, subst, arith}
 use Rattle.std.proofs.lemmas.List.{length-map}
-use Rattle.ci_base.specs.declared.bounds.TheConstants.{MOST_SCRIPT_LINES, MOST_INSTRUCTIONS}
+use Rattle.ci_base.specs.declared.bounds.TheConstants.{MOST_INSTRUCTIONS}
 use Rattle.ci_base.specs.declared.event.Event.{Event}
 use Rattle.ci_base.specs.declared.limits.Limits.{Limits}
 use Rattle.ci_base.specs.declared.task.Birth.{Birth}
@@ -15,9 +15,9 @@ use Rattle.ci_runtime.proofs.Turning.{Situation, formed_in}
 use Rattle.ci_runtime.specs.declared.board.Board.{Board}
 use Rattle.ci_runtime.specs.Boards.{Entered}
 use Rattle.ci_runtime.specs.Desks.{DeskState, HasRest, IsFrontDue, IsKept, desk_of, left_of, work_of}
-use Rattle.ci_runtime.specs.Seats.{CanBegin, Runner, Changed, Seat}
+use Rattle.ci_runtime.specs.Seats.{CanBegin, Runner, Seat}
 use Rattle.ci_shared.proofs.Proved as laws
-use Rattle.ci_shared.specs.Laws.{Grows, IsFormed, gained}
+use Rattle.ci_shared.specs.Laws.{Grows, IsFormed}
 use Rattle.ci_shared.specs.Roster.{Task}
 use Rattle.ci_shared.specs.Serving.{apply, script}
 use Rattle.ci_shared.specs.Started.{Basis, fresh}

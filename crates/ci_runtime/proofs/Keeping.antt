@@ -1,5 +1,5 @@
 -- What a desk keeps behind a request, behind an event, and where a turn's ticks are used.
-use Rattle.std.proofs.Common.{◌≡◌, ◌≢◌, ◌⊎◌, ◌<◌, ◌≤◌, ◌+◌, ◌*◌, ◌-◌, ◌++◌, ◌^◌, ℕ, zero, suc, List, [], ◌∷◌, length, drop, Option, Some, None, refl, sym, ap, ap₂, ◌∙◌, subst, arith, inl, inr, sum}
+use Rattle.std.proofs.Common.{◌≡◌, ◌≢◌, ◌⊎◌, ◌≤◌, ◌+◌, ◌*◌, ◌^◌, ℕ, zero, suc, List, [], ◌∷◌, length, drop, Some, refl, sym, ap, ap₂, ◌∙◌, subst, arith, inl, inr, sum}
 use Rattle.ci_base.specs.declared.bounds.TheConstants.{MOST_TASKS}
 use Rattle.ci_base.specs.declared.entry.Entry.{Entry}
 use Rattle.ci_base.specs.declared.entry.Entry.TheVariants as entries
@@ -7,10 +7,9 @@ use Rattle.ci_base.specs.declared.event.Event.{Event}
 use Rattle.ci_base.specs.declared.event.EventReply.{EventReply}
 use Rattle.ci_base.specs.declared.limits.Limits.{Limits}
 use Rattle.ci_base.specs.declared.reply.Reply.{Reply}
-use Rattle.ci_base.specs.declared.reply.Reply.TheVariants as replies
 use Rattle.ci_base.specs.declared.request.Request.{Request}
 use Rattle.ci_code.specs.declared.raw.RawParts.{RawParts}
-use Rattle.ci_runtime.proofs.Born.{births_snoc, functions_after, still_few}
+use Rattle.ci_runtime.proofs.Born.{births_snoc, functions_after, named_after, still_few}
 use Rattle.ci_runtime.proofs.Counting.{counts_ask, counts_event}
 use Rattle.ci_runtime.proofs.Seating.{AtRequest, seats_ask, seats_event, some_seat}
 use Rattle.ci_runtime.specs.declared.board.Board.{Board}
@@ -26,15 +25,15 @@ use Rattle.ci_shared.specs.Roster.{Ready, Standing, Task, standing_at, standing_
 use Rattle.ci_shared.specs.Serving.{apply, script}
 use Rattle.ci_shared.specs.Started.{Basis}
 use Rattle.ci_shared.specs.State.{Served, Shared}
-use Rattle.ci_store.specs.Stored.{Stored, after}
-use Rattle.ci_task.specs.Moved.{instructions_of, moved}
+use Rattle.ci_store.specs.Stored.{after}
+use Rattle.ci_task.specs.Moved.{moved}
 use Rattle.ci_tree.specs.Layouts.{layout_of}
 use Rattle.ci_world.proofs.Lists.{at_set, at_other, len_set, one_at}
 use Rattle.ci_world.proofs.Served.{common_snoc}
 use Rattle.ci_world.proofs.Working.{sum_set, sum_with, work_more, work_snoc}
 use Rattle.ci_world.specs.Lists.{at_task, set_task}
 use Rattle.ci_world.specs.Serial.{ticks_with}
-use Rattle.ci_world.specs.Trails.{behind_front, common_after, told, trail}
+use Rattle.ci_world.specs.Trails.{behind_front, common_after, trail}
 use Rattle.ci_world.specs.World.{Common, Origin, basis}
 
 pub layout_is : (o : Origin) (code : RawParts) → HasCode o code → code.layout ≡ layout_of o.project
@@ -122,6 +121,7 @@ module _ (o : Origin) (code : RawParts) (limits : Limits) (b : Board) (k : IsKep
       seated = seats_ask code k.has_code.is_code k.has_code.program.verified o (layout_is o code k.has_code) h keeps u (n + j) q formed ready' y.reply b.notes.ticks b.seats mid b'.seats seated p entered.settled;
       born = births_snoc o code (layout_is o code k.has_code) h e c.shared.roster.tasks y.shared.roster.tasks grows k.born;
       functions_are = functions_after o c.shared.roster.tasks y.shared.roster.tasks y.birth b.notes.functions grows (k.functions_are ∙ ap (λ (s : Shared). functions s.roster.tasks) k.shared_is);
+      named = named_after o code (layout_is o code k.has_code) c.shared.roster.tasks y.shared.roster.tasks y.birth b.notes.functions grows k.named;
       work_is = omega (arith, k.work_is, work_snoc h e b.notes.ticks (ticks_with (set_task b.notes.ticks u 0) y.birth) n sums);
       within = within;
       room = k.room;
@@ -161,6 +161,7 @@ module _ (o : Origin) (code : RawParts) (limits : Limits) (b : Board) (k : IsKep
       };
       born = k.born;
       functions_are = k.functions_are;
+      named = k.named;
       work_is = omega (arith, k.work_is, work_more b.notes.entries b.notes.ticks u n (n + j) kat);
       within = within;
       room = k.room;
@@ -222,6 +223,7 @@ module _ (o : Origin) (code : RawParts) (limits : Limits) (b : Board) (k : IsKep
       seated = seats_event code k.has_code.is_code k.has_code.program.verified o (layout_is o code k.has_code) h keeps ev served.reply b.notes.ticks b.seats b'.seats seated taken.settled;
       born = births_snoc o code (layout_is o code k.has_code) h entry c.shared.roster.tasks served.shared.roster.tasks event_grows k.born;
       functions_are = functions_after o c.shared.roster.tasks served.shared.roster.tasks served.birth b.notes.functions event_grows (k.functions_are ∙ ap (λ (s : Shared). functions s.roster.tasks) k.shared_is);
+      named = named_after o code (layout_is o code k.has_code) c.shared.roster.tasks served.shared.roster.tasks served.birth b.notes.functions event_grows k.named;
       work_is = omega (arith, k.work_is, work_snoc h entry b.notes.ticks (ticks_with b.notes.ticks served.birth) 0 event_sums);
       within = within;
       room = k.room;

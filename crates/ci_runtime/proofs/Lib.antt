@@ -11,4 +11,5 @@ pub mod Placing
 pub mod Rounding
 pub mod Running
 pub mod Seating
+pub mod Standing
 pub mod Turning

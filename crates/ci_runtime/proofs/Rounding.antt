@@ -1,15 +1,13 @@
 -- Events, turns and rounds.
-use Rattle.std.proofs.Common.{◌≡◌, ◌⊎◌, ◌<◌, ◌≤◌, ◌+◌, ◌-◌, ◌++◌, ◌&&◌, ℕ, zero, suc, Bool, true, false, cond, List, [], ◌∷◌, length, drop, Option, Some, None, refl, sym, ap, ap₂, ◌∙◌, subst, arith, inl, inr}
+use Rattle.std.proofs.Common.{◌≡◌, ◌<◌, ◌≤◌, ◌-◌, ◌&&◌, ℕ, zero, suc, Bool, true, false, cond, List, [], ◌∷◌, drop, Option, Some, None, refl, sym, ap, ap₂, ◌∙◌, subst, arith, inl, inr}
 use Rattle.std.proofs.lemmas.Bool.{lt-ltb}
-use Rattle.std.specs.Prelude.{IsTrue, IsFalse, nat_lt, option_map, slice_get}
-use Rattle.std.specs.Option.{option_map_or}
+use Rattle.std.specs.Prelude.{IsFalse, nat_lt, option_map, slice_get}
 use Rattle.ci_base.specs.declared.entry.Entry.{Entry}
 use Rattle.ci_base.specs.declared.entry.Entry.TheVariants as entries
 use Rattle.ci_base.specs.declared.event.Event.{Event}
 use Rattle.ci_base.specs.declared.event.EventReply.{EventReply}
 use Rattle.ci_base.specs.declared.limits.Limits.{Limits}
 use Rattle.ci_base.specs.declared.limits.Turn.TheVariants as turns
-use Rattle.ci_base.specs.declared.reply.Reply.{Reply}
 use Rattle.ci_code.specs.declared.raw.RawParts.{RawParts}
 use Rattle.ci_runtime.proofs.Turning.{common_in, in_progress}
 use Rattle.ci_runtime.specs.declared.board.Board.{Board}
@@ -17,7 +15,7 @@ use Rattle.ci_runtime.specs.declared.choice.Choice.{Choice}
 use Rattle.ci_runtime.specs.declared.choice.Choice.TheVariants as choices
 use Rattle.ci_runtime.specs.Boards.{Taken}
 use Rattle.ci_runtime.specs.Choosing.{choice_of, event_or_turn}
-use Rattle.ci_runtime.specs.Desks.{CanGoOn, Chooses, DeskState, Does, DoesFrom, GoesBy, HasRest, Is, IsAtEnd, IsFrontDue, IsKept, IsSame, RoundFrom, Rounded, TookFrom, TurnFrom, desk_of, left_of, next_task, shared_of, work_of}
+use Rattle.ci_runtime.specs.Desks.{CanGoOn, Chooses, DeskState, Does, DoesFrom, GoesBy, HasRest, Is, IsAtEnd, IsFrontDue, IsKept, IsSame, RoundFrom, TookFrom, TurnFrom, desk_of, left_of, next_task, shared_of, work_of}
 use Rattle.ci_runtime.specs.Notes.{Noted}
 use Rattle.ci_shared.specs.Roster.{Task}
 use Rattle.ci_shared.specs.Serving.{script}
@@ -26,11 +24,11 @@ use Rattle.ci_shared.specs.State.{Served, Shared}
 use Rattle.ci_world.proofs.Sound.{run_snoc}
 use Rattle.ci_world.proofs.Tasks.{chosen_can}
 use Rattle.ci_world.specs.Lists.{at_task}
-use Rattle.ci_world.specs.Serial.{GivesTurn, Progress, Requests, Round, TakesEvent, TurnIn, TurnOf, chosen, first_above, goes_on, loose, or_else, rest_of, took}
-use Rattle.ci_world.specs.Tasks.{CanStep, Is as Passes, NoneCanStep, can_step}
+use Rattle.ci_world.specs.Serial.{Progress, TakesEvent, TurnOf, chosen, first_above, or_else, took}
+use Rattle.ci_world.specs.Tasks.{CanStep, NoneCanStep, can_step}
 use Rattle.ci_world.specs.Trails.{common_after}
 use Rattle.ci_world.specs.Work.{IsFinished, loose_of, work}
-use Rattle.ci_world.specs.World.{Common, IsDue, Origin, World, Run, basis, happened, opening_world}
+use Rattle.ci_world.specs.World.{Common, IsDue, Origin, basis, happened, opening_world}
 
 due_in : (c c' : Common) (e : Event) → c ≡ c' → IsDue c' e → IsDue c e
 due_in c c' e eq (inl a) = inl a

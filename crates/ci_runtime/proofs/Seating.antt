@@ -1,5 +1,5 @@
 -- The seats behind an entry.
-use Rattle.std.proofs.Common.{◌≡◌, ◌≢◌, ◌⊎◌, ◌<◌, ◌≤◌, ◌+◌, ◌++◌, ℕ, zero, suc, Bool, true, false, cond, List, [], ◌∷◌, length, map, Option, Some, None, refl, sym, ap, ◌∙◌, subst, arith, inl, inr, eqb, length-append, append-nil}
+use Rattle.std.proofs.Common.{Contains, ◌≡◌, ◌≢◌, ◌⊎◌, ◌<◌, ◌≤◌, ◌+◌, ◌++◌, ℕ, zero, suc, Bool, true, false, cond, List, [], ◌∷◌, length, map, Option, Some, None, refl, sym, ap, ◌∙◌, subst, arith, inl, inr, eqb, length-append, append-nil}
 use Rattle.std.proofs.lemmas.List.{length-map}
 use Rattle.ci_base.specs.declared.entry.Entry.{Entry}
 use Rattle.ci_base.specs.declared.entry.Entry.TheVariants as entries
@@ -19,10 +19,11 @@ use Rattle.ci_base.specs.Steps.{asks}
 use Rattle.ci_code.specs.declared.raw.RawParts.{RawParts}
 use Rattle.ci_code.specs.Code.{IsCode}
 use Rattle.ci_code.specs.Machine.{next}
-use Rattle.ci_runtime.specs.Seats.{Runner, Seat, StandsWaiting, IsSeated, AreSeated, Changed, Delivered, OwnSettled, VictimSettled, BornSettled, Settled}
+use Rattle.ci_runtime.specs.Seats.{Runner, Seat, StandsWaiting, IsSeated, AreSeated, Changed, Delivered, OwnSettled, VictimsSettled, BornSettled, Settled}
+use Rattle.ci_shared.proofs.Named.{named_in, none_named}
 use Rattle.ci_shared.proofs.Numbers.{decide, eqb_same, eqb_apart}
 use Rattle.ci_shared.proofs.Proved as laws
-use Rattle.ci_shared.specs.Laws.{Keeps, IsFormed, Other, Own, Grows, victim, victim_of, woken}
+use Rattle.ci_shared.specs.Laws.{Keeps, IsFormed, Other, Own, Grows, victims, victims_of, woken}
 use Rattle.ci_shared.specs.Roster.{Standing, Ready, Waiting, Ended, Killed, Task, standing_in, is_live}
 use Rattle.ci_shared.specs.Serving.{apply, script}
 use Rattle.ci_shared.specs.Started.{fresh}
@@ -82,43 +83,49 @@ own_long u (replies.Answer a) old new s = s.changed.long
 own_long u replies.Waits old new s = ap (λ (l : List Seat). length l) s
 own_long u replies.Ends old new s = s.changed.long
 
-victim_long : (v : Option ℕ) (tasks : List Task) (old new : List Seat) → VictimSettled v tasks old new → length new ≡ length old
-victim_long None tasks old new s = ap (λ (l : List Seat). length l) s
-victim_long (Some v) tasks old new s = s.changed.long
+victims_long : (vs : List ℕ) (tasks : List Task) (old new : List Seat) → VictimsSettled vs tasks old new → length new ≡ length old
+victims_long [] tasks old new s = ap (λ (l : List Seat). length l) s
+victims_long (v ∷ vs) tasks old new (mid, one, more) = victims_long vs tasks mid new more ∙ one.changed.long
 
--- the seat of a task behind the end of the one that may be killed
-pub record VictimFreed (v : Option ℕ) (t : ℕ) (z : Standing) (seat seat' : Seat) : Type 0 where
+-- the seat of a task behind the end of those that may be killed
+pub record VictimsFreed (vs : List ℕ) (t : ℕ) (z : Standing) (seat seat' : Seat) : Type 0 where
   pub live : is_live z ≡ true → seat' ≡ seat
   pub gone : seat ≡ None → seat' ≡ None
-  pub dead : v ≡ Some t → is_live z ≡ false → seat' ≡ None
-
-victim_at : (v : Option ℕ) (tasks : List Task) (old new : List Seat) (t : ℕ) (z : Standing) (seat seat' : Seat) → VictimSettled v tasks old new → standing_in tasks t ≡ Some z → at_task old t ≡ Some seat → at_task new t ≡ Some seat' → VictimFreed v t z seat seat'
-victim_at None tasks old new t z seat seat' same zat at at' =
-    let eq : seat' ≡ seat = some_seat seat' seat _ at' (ap (λ (l : List Seat). at_task l t) same ∙ at) in
-    record { live = λ l. eq; gone = λ n. eq ∙ n; dead = λ e d. absurd (cc) }
-victim_at (Some v) tasks old new t z seat seat' s zat at at' = by (decide v t)
-  where
-    same_of : Some v ≡ Some t → t ≡ v
-    same_of h = cc
-
-    none_or : (b : Bool) → is_live z ≡ b → (is_live z ≡ false → at_task new v ≡ Some None) × (is_live z ≡ true → at_task new v ≡ Some seat) → at_task new v ≡ Some seat' → seat ≡ None → seat' ≡ None
-    none_or true l r here n = some_seat seat' seat _ here (r.1 l) ∙ n
-    none_or false l r here n = some_seat seat' None _ here (r.0 l)
-
-    by : (v ≡ t) ⊎ (v ≢ t) → VictimFreed (Some v) t z seat seat'
-    by (inl same) =
-        let r = s.told z seat (ap (standing_in tasks) same ∙ zat) (ap (at_task old) same ∙ at) in
-        let here : at_task new v ≡ Some seat' = ap (at_task new) same ∙ at' in
-        record { live = λ l. some_seat seat' seat _ here (r.1 l); gone = λ n. none_or (is_live z) refl r here n; dead = λ e d. some_seat seat' None _ here (r.0 d) }
-    by (inr other) =
-        let eq : seat' ≡ seat = some_seat seat' seat _ at' (s.changed.others t (λ same. other (sym same)) ∙ at) in
-        record { live = λ l. eq; gone = λ n. eq ∙ n; dead = λ named d. absurd (other (sym (same_of named))) }
-
-with_none : (x : Trail) (g : List Answer) → g ≡ [] → with_answers x g ≡ x
-with_none x g none = ap (with_answers x) none ∙ ap (λ (l : List Answer). record { birth = x.birth; answers = l }) (append-nil x.answers)
+  pub dead : Contains vs t → is_live z ≡ false → seat' ≡ None
 
 not_both : {A : Type 0} (b : Bool) → b ≡ false → b ≡ true → A
 not_both b e f = absurd (cc)
+
+-- behind the end of the first, and of the rest
+then_freed : (v : ℕ) (vs : List ℕ) (t : ℕ) (z : Standing) (seat mid seat' : Seat) → (is_live z ≡ true → mid ≡ seat) → (seat ≡ None → mid ≡ None) → (v ≡ t → is_live z ≡ false → mid ≡ None) → VictimsFreed vs t z mid seat' → VictimsFreed (v ∷ vs) t z seat seat'
+then_freed v vs t z seat mid seat' live gone dead more = record {
+  live = λ l. more.live l ∙ live l;
+  gone = λ n. more.gone (gone n);
+  dead = λ named d. elim (named_in v vs t named) [ inl same ↦ more.gone (dead same d) | inr later ↦ more.dead later d ];
+}
+
+victims_at : (vs : List ℕ) (tasks : List Task) (old new : List Seat) (t : ℕ) (z : Standing) (seat seat' : Seat) → VictimsSettled vs tasks old new → standing_in tasks t ≡ Some z → at_task old t ≡ Some seat → at_task new t ≡ Some seat' → VictimsFreed vs t z seat seat'
+victims_at [] tasks old new t z seat seat' same zat at at' =
+    let eq : seat' ≡ seat = some_seat seat' seat _ at' (ap (λ (l : List Seat). at_task l t) same ∙ at) in
+    record { live = λ l. eq; gone = λ n. eq ∙ n; dead = λ named d. absurd (none_named t named) }
+victims_at (v ∷ vs) tasks old new t z seat seat' (mid, one, more) zat at at' = by (decide v t) (λ here there. victims_at vs tasks mid new t z here seat' more zat there at')
+  where
+    by : (v ≡ t) ⊎ (v ≢ t) → ((here : Seat) → at_task mid t ≡ Some here → VictimsFreed vs t z here seat') → VictimsFreed (v ∷ vs) t z seat seat'
+    by (inr other) later =
+        let there : at_task mid t ≡ Some seat = one.changed.others t (λ same. other (sym same)) ∙ at in
+        then_freed v vs t z seat seat seat' (λ l. refl) (λ n. n) (λ same d. absurd (other same)) (later seat there)
+    by (inl same) later =
+        let told = one.told z seat (ap (standing_in tasks) same ∙ zat) (ap (at_task old) same ∙ at) in
+        lives (is_live z) refl told later
+      where
+        lives : (b : Bool) → is_live z ≡ b → (is_live z ≡ false → at_task mid v ≡ Some None) × (is_live z ≡ true → at_task mid v ≡ Some seat) → ((here : Seat) → at_task mid t ≡ Some here → VictimsFreed vs t z here seat') → VictimsFreed (v ∷ vs) t z seat seat'
+        lives true l told later =
+            then_freed v vs t z seat seat seat' (λ l. refl) (λ n. n) (λ same d. not_both (is_live z) d l) (later seat (ap (at_task mid) (sym same) ∙ told.1 l))
+        lives false l told later =
+            then_freed v vs t z seat None seat' (λ live. not_both (is_live z) l live) (λ n. refl) (λ same d. refl) (later None (ap (at_task mid) (sym same) ∙ told.0 l))
+
+with_none : (x : Trail) (g : List Answer) → g ≡ [] → with_answers x g ≡ x
+with_none x g none = ap (with_answers x) none ∙ ap (λ (l : List Answer). record { birth = x.birth; answers = l }) (append-nil x.answers)
 
 -- the task that has come to a request
 pub record AtRequest (code : RawParts) (o : Origin) (h : List Entry) (u k : ℕ) (old mid : List Seat) (q : Request) : Type 0 where
@@ -133,9 +140,9 @@ pub record AtRequest (code : RawParts) (o : Origin) (h : List Entry) (u k : ℕ)
 
 module _ (code : RawParts) (is_code : IsCode code) (sound : NoneBroken code) where
   -- a task to which something happens, where its trail gets these answers
-  other_seated : (x : Trail) (v : Option ℕ) (t k : ℕ) (y z : Standing) (g : List Answer) (seat first : Seat) → IsSeated code x k y seat → Other v t y z g → VictimFreed v t z seat first →
+  other_seated : (x : Trail) (vs : List ℕ) (t k : ℕ) (y z : Standing) (g : List Answer) (seat first : Seat) → IsSeated code x k y seat → Other vs t y z g → VictimsFreed vs t z seat first →
       (seat' : Seat) → ((m : Runner) → first ≡ Some m → (m' : Runner) × (seat' ≡ Some m') × ResumedBy g m m') → (g ≡ [] → seat' ≡ first) → IsSeated code (with_answers x g) k z seat'
-  other_seated x v t k y z g seat first home (inl (same, none)) freed seat' got_it not_it =
+  other_seated x vs t k y z g seat first home (inl (same, none)) freed seat' got_it not_it =
       subst (λ (l : Trail). IsSeated code l k z seat') (sym (with_none x g none)) (subst (λ (s : Standing). IsSeated code x k s seat') (sym same) (by y refl home))
     where
       kept : is_live y ≡ true → seat' ≡ seat
@@ -146,7 +153,7 @@ module _ (code : RawParts) (is_code : IsCode code) (sound : NoneBroken code) whe
       by (Waiting p) e h = subst (λ (w : Seat). IsSeated code x k (Waiting p) w) (sym (kept (ap is_live e))) h
       by (Ended c) e h = not_it none ∙ freed.gone h
       by Killed e h = not_it none ∙ freed.gone h
-  other_seated x v t k y z g seat first home (inr (inl (p, a, was, now, one, fit))) freed seat' got_it not_it =
+  other_seated x vs t k y z g seat first home (inr (inl (p, a, was, now, one, fit))) freed seat' got_it not_it =
       let (st, zero_ticks) = subst (λ (s : Standing). IsSeated code x k s seat) was home in
       let (m', is, r) = got_it st.machine (freed.live (ap is_live now) ∙ st.there) in
       let (mid, res, same) = subst (λ (l : List Answer). ResumedBy l st.machine m') one r in
@@ -154,7 +161,7 @@ module _ (code : RawParts) (is_code : IsCode code) (sound : NoneBroken code) whe
       subst (λ (s : Standing). IsSeated code (with_answers x g) k s seat') (sym now)
       (subst (λ (l : List Answer). IsSeated code (with_answers x l) k Ready seat') (sym one)
       (m', is, subst (λ (n : ℕ). moved code (with_answers x (a ∷ [])) n m') (sym zero_ticks) (subst (λ (w : Runner). moved code (with_answers x (a ∷ [])) 0 w) (sym same) along)))
-  other_seated x v t k y z g seat first home (inr (inr (is_named, died, none))) freed seat' got_it not_it = by z died (not_it none ∙ freed.dead is_named died)
+  other_seated x vs t k y z g seat first home (inr (inr (is_named, died, none))) freed seat' got_it not_it = by z died (not_it none ∙ freed.dead is_named died)
     where
       by : (s : Standing) → is_live s ≡ false → seat' ≡ None → IsSeated code (with_answers x g) k s seat'
       by Ready e h = not_both true e refl
@@ -261,30 +268,30 @@ module _ (code : RawParts) (is_code : IsCode code) (sound : NoneBroken code) whe
             split t z k seat zat (inr p) (inr q) (inl r) = let w = at_within third t seat r in absurd (omega (arith, w.1, p.0, ls))
 
     -- a task that doesn't ask, through all parts
-    through : (now : List Task) (ds : List Delivery) (v : Option ℕ) (t k : ℕ) (y z : Standing) (seat : Seat) (first second third : List Seat) → IsSeated code (trail o t h) k y seat → Other v t y z (woken t ds) → standing_in now t ≡ Some z → at_task first t ≡ Some seat →
-        VictimSettled v now first second → Delivered ds second third → (seat' : Seat) → at_task third t ≡ Some seat' → IsSeated code (with_answers (trail o t h) (woken t ds)) k z seat'
-    through now ds v t k y z seat first second third home other zat at freed rest seat' at' =
+    through : (now : List Task) (ds : List Delivery) (vs : List ℕ) (t k : ℕ) (y z : Standing) (seat : Seat) (first second third : List Seat) → IsSeated code (trail o t h) k y seat → Other vs t y z (woken t ds) → standing_in now t ≡ Some z → at_task first t ≡ Some seat →
+        VictimsSettled vs now first second → Delivered ds second third → (seat' : Seat) → at_task third t ≡ Some seat' → IsSeated code (with_answers (trail o t h) (woken t ds)) k z seat'
+    through now ds vs t k y z seat first second third home other zat at freed rest seat' at' =
         let within = at_within first t seat at in
-        let (seat2, at2) = at_there second t within.0 (omega (arith, within.1, victim_long v now first second freed)) in
-        other_seated (trail o t h) v t k y z (woken t ds) seat seat2 home other (victim_at v now first second t z seat seat2 freed zat at at2) seat'
+        let (seat2, at2) = at_there second t within.0 (omega (arith, within.1, victims_long vs now first second freed)) in
+        other_seated (trail o t h) vs t k y z (woken t ds) seat seat2 home other (victims_at vs now first second t z seat seat2 freed zat at at2) seat'
         (λ m e. let (m', there, r) = delivered_at ds second third t m rest (at2 ∙ ap (λ (s : Seat). Some s) e) in (m', some_seat seat' (Some m') _ at' there, r))
         (λ none. some_seat seat' seat2 _ at' (delivered_same ds second third t rest none ∙ at2))
 
     module _ (keeps : Keeps (basis o) (common_after o h).shared) where
       pub seats_event : (e : Event) (r : EventReply) (ticks : List ℕ) (seats new : List Seat) → AreSeated code o h old ticks seats →
-          Settled code 0 replies.Waits (victim_of e.what) (script (basis o) (common_after o h).shared e.what).shared.roster.tasks (script (basis o) (common_after o h).shared e.what).deliveries (script (basis o) (common_after o h).shared e.what).birth seats new →
+          Settled code 0 replies.Waits (victims_of e.what) (script (basis o) (common_after o h).shared e.what).shared.roster.tasks (script (basis o) (common_after o h).shared e.what).deliveries (script (basis o) (common_after o h).shared e.what).birth seats new →
           AreSeated code o (h ++ entries.Script e r ∷ []) (script (basis o) (common_after o h).shared e.what).shared.roster.tasks (ticks_with ticks (script (basis o) (common_after o h).shared e.what).birth) new
       seats_event e r ticks seats new home st =
           let x = told o (common_after o h) (entries.Script e r) in
           let l1 = ap (λ (l : List Seat). length l) st.own in
-          let l2 = victim_long (victim_of e.what) x.common.shared.roster.tasks st.first st.second st.victim in
+          let l2 = victims_long (victims_of e.what) x.common.shared.roster.tasks st.first st.second st.victims in
           let l3 = delivered_long x.deliveries st.second st.third st.rest in
           seats_after (entries.Script e r) x ticks st.third new refl home.many_ticks (l3 ∙ l2 ∙ l1 ∙ home.many_seats) (laws.script_grows (basis o) (common_after o h).shared e.what keeps) st.born
           (λ t y k seat' yat kat at'.
           let within = standing_within old t y yat in
           let (seat, at) = at_there seats t within.0 (omega (arith, within.1, home.many_seats)) in
           let (z, zat, other) = laws.other_script (basis o) (common_after o h).shared e.what t y keeps yat in
-          (z, zat, through x.common.shared.roster.tasks x.deliveries (victim_of e.what) t k y z seat st.first st.second st.third (home.each t y k seat yat kat at) other zat (ap (λ (l : List Seat). at_task l t) st.own ∙ at) st.victim st.rest seat' at'))
+          (z, zat, through x.common.shared.roster.tasks x.deliveries (victims_of e.what) t k y z seat st.first st.second st.third (home.each t y k seat yat kat at) other zat (ap (λ (l : List Seat). at_task l t) st.own ∙ at) st.victims st.rest seat' at'))
 
       module _ (u k : ℕ) (q : Request) (formed : IsFormed (basis o) q) (ready : standing_in old u ≡ Some Ready) where
         abbrev y : Served Reply
@@ -294,7 +301,7 @@ module _ (code : RawParts) (is_code : IsCode code) (sound : NoneBroken code) whe
         all = answer_to u y.reply ++ y.deliveries
 
         pub seats_ask : (r : Reply) (ticks : List ℕ) (seats mid new : List Seat) → AreSeated code o h old ticks seats → AtRequest code o h u k seats mid q →
-            Settled code u y.reply (victim q) y.shared.roster.tasks y.deliveries y.birth mid new → AreSeated code o (h ++ entries.Ask u k q r ∷ []) y.shared.roster.tasks (ticks_with (set_task ticks u 0) y.birth) new
+            Settled code u y.reply (victims q) y.shared.roster.tasks y.deliveries y.birth mid new → AreSeated code o (h ++ entries.Ask u k q r ∷ []) y.shared.roster.tasks (ticks_with (set_task ticks u 0) y.birth) new
         seats_ask r ticks seats mid new home p st =
             seats_after (entries.Ask u k q r) (told o (common_after o h) (entries.Ask u k q r)) (set_task ticks u 0) st.third new refl (len_set ticks u 0 ∙ home.many_ticks) (l3 ∙ l2 ∙ l1 ∙ p.changed.long ∙ home.many_seats) (laws.ask_grows (basis o) (common_after o h).shared u q keeps ready) st.born
             (λ t. by t (decide t u))
@@ -303,7 +310,7 @@ module _ (code : RawParts) (is_code : IsCode code) (sound : NoneBroken code) whe
             l1 = own_long u y.reply mid st.first st.own
 
             l2 : length st.second ≡ length st.first
-            l2 = victim_long (victim q) y.shared.roster.tasks st.first st.second st.victim
+            l2 = victims_long (victims q) y.shared.roster.tasks st.first st.second st.victims
 
             l3 : length st.third ≡ length st.second
             l3 = delivered_long y.deliveries st.second st.third st.rest
@@ -321,7 +328,7 @@ module _ (code : RawParts) (is_code : IsCode code) (sound : NoneBroken code) whe
                 let (seat2, at2) = at_there st.second u within.0 (omega (arith, within.1, l1, l2, p.changed.long, home.many_seats)) in
                 let same3 : seat' ≡ seat2 = some_seat seat' seat2 _ at' (delivered_same y.deliveries st.second st.third u st.rest none ∙ at2) in
                 let seated = own_seated o layout h u k n z q y.reply seats mid st.first seat2 p is_own st.own
-                (λ seat e. let f = victim_at (victim q) y.shared.roster.tasks st.first st.second u z seat seat2 st.victim zat e at2 in (f.live, f.gone)) (ticks_zero n nat) in (
+                (λ seat e. let f = victims_at (victims q) y.shared.roster.tasks st.first st.second u z seat seat2 st.victims zat e at2 in (f.live, f.gone)) (ticks_zero n nat) in (
                   z,
                   zat,
                   subst (λ (l : List Answer). IsSeated code (with_answers (trail o u h) l) n z seat') (sym (asker_woken u y.reply y.deliveries none))
@@ -334,7 +341,7 @@ module _ (code : RawParts) (is_code : IsCode code) (sound : NoneBroken code) whe
                 let (seat, at) = at_there seats t within.0 (omega (arith, within.1, home.many_seats)) in
                 let (z, zat, is_other) = laws.other_ask (basis o) (common_after o h).shared u q t s keeps ready other sat in
                 let first_at : at_task st.first t ≡ Some seat = own_others u t y.reply mid st.first st.own other ∙ p.changed.others t other ∙ at in
-                let seated = through y.shared.roster.tasks y.deliveries (victim q) t n s z seat st.first st.second st.third (home.each t s n seat sat (sym (at_other ticks u t 0 other) ∙ nat) at) is_other zat first_at st.victim st.rest seat' at' in
+                let seated = through y.shared.roster.tasks y.deliveries (victims q) t n s z seat st.first st.second st.third (home.each t s n seat sat (sym (at_other ticks u t 0 other) ∙ nat) at) is_other zat first_at st.victims st.rest seat' at' in
                 (z, zat, subst (λ (l : List Answer). IsSeated code (with_answers (trail o t h) l) n z seat') (sym (other_woken t u y.reply y.deliveries other)) seated)
 
             by : (t : ℕ) → (t ≡ u) ⊎ (t ≢ u) → GoesSeated o h (woken t all) old (set_task ticks u 0) st.third y.shared.roster.tasks t

@@ -1,12 +1,10 @@
 -- Requests, events, turns and rounds of the round-robin run, as the desk makes them.
-use Rattle.std.proofs.Common.{◌≡◌, ◌≢◌, ◌⊎◌, ◌<◌, ◌≤◌, ◌+◌, ◌*◌, ◌-◌, ◌++◌, ◌&&◌, ◌^◌, ℕ, zero, suc, Bool, true, false, cond, List, [], ◌∷◌, length, map, drop, Option, Some, None, refl, sym, ap, ap₂, ◌∙◌, subst, arith, inl, inr, min, sum, ltb-true}
-use Rattle.std.specs.Prelude.{IsTrue, IsFalse, IfSome, nat_lt, not, option_map, slice_get, if◌then◌else◌}
+use Rattle.std.proofs.Common.{◌≡◌, ◌<◌, ◌≤◌, ◌+◌, ◌-◌, ◌&&◌, ℕ, zero, suc, Bool, true, false, cond, List, length, map, Option, Some, None, refl, sym, ap, ap₂, ◌∙◌, subst, arith, inl, inr, min, sum, ltb-true}
+use Rattle.std.specs.Prelude.{IfSome, nat_lt, not, option_map, slice_get, if◌then◌else◌}
 use Rattle.std.proofs.lemmas.List.{length-map}
 use Rattle.std.specs.Option.{option_map_or}
-use Rattle.ci_base.specs.declared.bounds.TheConstants.{MOST_INSTRUCTIONS}
 use Rattle.ci_base.specs.declared.entry.Entry.{Entry}
 use Rattle.ci_base.specs.declared.entry.Entry.TheVariants as entries
-use Rattle.ci_base.specs.declared.event.Event.{Event}
 use Rattle.ci_base.specs.declared.limits.Limits.{Limits}
 use Rattle.ci_base.specs.declared.layout.CellHead.{CellHead}
 use Rattle.ci_base.specs.declared.layout.Layout.{Layout}
@@ -16,7 +14,6 @@ use Rattle.ci_base.specs.declared.request.Request.{Request}
 use Rattle.ci_base.specs.declared.request.Request.TheVariants as requests
 use Rattle.ci_base.specs.declared.value.Kind.{Kind}
 use Rattle.ci_base.specs.Steps.{asks, quiet, stuck, tick}
-use Rattle.ci_base.specs.Values.{kind_of}
 use Rattle.ci_code.specs.declared.raw.RawParts.{RawParts}
 use Rattle.ci_code.specs.Machine.{next}
 use Rattle.ci_code.specs.Moves.{Move}
@@ -27,34 +24,34 @@ use Rattle.ci_runtime.proofs.Counting.{along_of}
 use Rattle.ci_runtime.proofs.Keeping.{layout_is}
 use Rattle.ci_runtime.proofs.Seating.{AtRequest}
 use Rattle.ci_runtime.specs.declared.board.Board.{Board}
-use Rattle.ci_runtime.specs.Boards.{Entered, Taken}
-use Rattle.ci_runtime.specs.Desks.{CanGoOn, DeskState, Does, DoesFrom, HasRest, Is, IsKept, desk_of, shared_of}
+use Rattle.ci_runtime.specs.Boards.{Entered}
+use Rattle.ci_runtime.specs.Desks.{CanGoOn, DeskState, Does, DoesFrom, Is, IsKept, desk_of}
 use Rattle.ci_runtime.specs.Laws.{DoesTheSame}
 use Rattle.ci_runtime.specs.Notes.{Noted, with_ticks}
 use Rattle.ci_runtime.specs.Seats.{Runner, Seat, Changed, RanAt}
 use Rattle.ci_shared.proofs.Proved as laws
 use Rattle.ci_shared.specs.Laws.{IsFormed, Keeps, Own}
 use Rattle.ci_shared.specs.Roster.{Ready, Standing, Task, standing_at}
-use Rattle.ci_shared.specs.Serving.{apply, script}
+use Rattle.ci_shared.specs.Serving.{apply}
 use Rattle.ci_shared.specs.Started.{Basis}
 use Rattle.ci_shared.specs.State.{Served, Shared}
 use Rattle.ci_store.specs.Stored.{Stored, mark_at}
 use Rattle.ci_task.specs.declared.machine.Pause.{Pause}
 use Rattle.ci_task.specs.declared.machine.Pause.TheVariants as pauses
-use Rattle.ci_task.specs.Moved.{IsMade, Paused, cell_kinds, instructions_of, machine_of, moved}
+use Rattle.ci_task.specs.Moved.{IsMade, Paused, cell_kinds, machine_of, moved}
 use Rattle.ci_task.specs.Running as running
 use Rattle.ci_tree.specs.Layouts.{layout_of}
 use Rattle.ci_world.proofs.Follow.{follows_run}
-use Rattle.ci_world.proofs.Lists.{at_there, at_within, one_at, standing_within}
+use Rattle.ci_world.proofs.Lists.{at_there, one_at, standing_within}
 use Rattle.ci_world.proofs.Sound.{run_snoc}
 use Rattle.ci_world.proofs.Tasks.{can_ready, ready_can}
 use Rattle.ci_world.proofs.Working.{sum_set, work_is}
 use Rattle.ci_world.specs.Lists.{at_task, set_task}
-use Rattle.ci_world.specs.Serial.{IsTick, Progress, Requests, RunsOut, Ticks, goes_on, granted, is_answer, is_suspended, loose, rest_of, served_at, ticked, ticks_with}
+use Rattle.ci_world.specs.Serial.{IsTick, Progress, Requests, RunsOut, Ticks, goes_on, granted, is_answer, is_suspended, rest_of, served_at, ticked}
 use Rattle.ci_world.specs.Tasks.{CanStep}
 use Rattle.ci_world.specs.Trails.{common_after, trail}
 use Rattle.ci_world.specs.Work.{loose_of, work}
-use Rattle.ci_world.specs.World.{Common, Origin, World, Run, asked, basis, opening_world}
+use Rattle.ci_world.specs.World.{Common, Origin, World, Run, basis, opening_world}
 
 -- the run whose state is that of a desk, in a world
 abbrev progress_in : DeskState → World → Progress

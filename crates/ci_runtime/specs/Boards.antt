@@ -11,7 +11,7 @@ use Rattle.ci_code.specs.declared.raw.RawParts.{RawParts}
 use Rattle.ci_runtime.specs.declared.board.Board.{Board}
 use Rattle.ci_runtime.specs.Notes.{with_entry, with_ticks}
 use Rattle.ci_runtime.specs.Seats.{Runner, Settled}
-use Rattle.ci_shared.specs.Laws.{victim, victim_of}
+use Rattle.ci_shared.specs.Laws.{victims, victims_of}
 use Rattle.ci_shared.specs.State.{Served}
 use Rattle.ci_store.specs.Stored.{after}
 use Rattle.ci_task.specs.Moved.{instructions_of}
@@ -21,7 +21,7 @@ use Rattle.ci_world.specs.Lists.{at_task}
 pub record Entered (code : RawParts) (t used ticks : ℕ) (q : Request) (x : Served Reply) (old new : Board) : Type 0 where
   pub stored : new.store ≡ after old.store.basis x
   pub noted : new.notes ≡ with_entry (with_ticks old.notes t 0) (entries.Ask t used q x.reply) x.birth
-  pub settled : Settled code t x.reply (victim q) x.shared.roster.tasks x.deliveries x.birth old.seats new.seats
+  pub settled : Settled code t x.reply (victims q) x.shared.roster.tasks x.deliveries x.birth old.seats new.seats
   pub next_is : new.next ≡ old.next
   pub last_is : new.last ≡ old.last
   pub work_is : new.work ≡ old.work + ticks + 100
@@ -31,7 +31,7 @@ pub record Entered (code : RawParts) (t used ticks : ℕ) (q : Request) (x : Ser
 pub record Taken (code : RawParts) (e : Event) (x : Served EventReply) (old new : Board) : Type 0 where
   pub stored : new.store ≡ after old.store.basis x
   pub noted : new.notes ≡ with_entry old.notes (entries.Script e x.reply) x.birth
-  pub settled : Settled code 0 replies.Waits (victim_of e.what) x.shared.roster.tasks x.deliveries x.birth old.seats new.seats
+  pub settled : Settled code 0 replies.Waits (victims_of e.what) x.shared.roster.tasks x.deliveries x.birth old.seats new.seats
   pub next_is : new.next ≡ old.next + 1
   pub last_is : new.last ≡ old.last
   pub work_is : new.work ≡ old.work + 100

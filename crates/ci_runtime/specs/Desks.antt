@@ -1,12 +1,11 @@
 -- What contracts see of a desk, and what its type keeps.
-use Rattle.std.specs.Prelude.{◌≡◌, ◌⊎◌, ◌≤◌, ◌<◌, ◌*◌, ◌+◌, ◌-◌, ◌^◌, ℕ, Bool, true, false, IsTrue, IsFalse, List, [], ◌∷◌, length, drop, Option, None, Some, option_map}
+use Rattle.std.specs.Prelude.{◌≡◌, ◌≤◌, ◌<◌, ◌*◌, ◌+◌, ◌-◌, ◌^◌, ℕ, true, IsFalse, List, [], ◌∷◌, length, drop, All, Option, None, Some}
 use Rattle.ci_base.specs.declared.bounds.TheConstants.{MOST_TASKS}
 use Rattle.ci_base.specs.declared.entry.Entry.{Entry}
 use Rattle.ci_base.specs.declared.event.Event.{Event}
 use Rattle.ci_base.specs.declared.limits.Limits.{Limits}
 use Rattle.ci_base.specs.declared.limits.Turn.{Turn}
 use Rattle.ci_base.specs.declared.limits.Turn.TheVariants as turns
-use Rattle.ci_base.specs.declared.list.Loose.{Loose}
 use Rattle.ci_base.specs.declared.reply.Reply.{Reply}
 use Rattle.ci_code.specs.declared.raw.RawParts.{RawParts}
 use Rattle.ci_code.specs.Code.{IsCode}
@@ -22,11 +21,11 @@ use Rattle.ci_shared.specs.Laws.{Keeps, functions}
 use Rattle.ci_shared.specs.State.{Shared}
 use Rattle.ci_tree.specs.declared.bound.ProjectParts.{ProjectParts}
 use Rattle.ci_tree.specs.SeenBound.{project_of}
-use Rattle.ci_world.specs.Serial.{Progress, Requests, Round, Rounds, TurnIn, TurnOf, first_above, TakesEvent, goes_on, or_else}
+use Rattle.ci_world.specs.Serial.{Progress, Requests, Round, TurnIn, TurnOf, first_above, TakesEvent, goes_on, or_else}
 use Rattle.ci_world.specs.Tasks.{CanStep, NoneCanStep}
 use Rattle.ci_world.specs.Trails.{common_after}
 use Rattle.ci_world.specs.Work.{IsFinished, loose_of, work}
-use Rattle.ci_world.specs.World.{Common, Origin, IsDue, Run, basis}
+use Rattle.ci_world.specs.World.{Origin, IsDue, Run, basis}
 
 -- what contracts see of a desk: its project, the events of the script, the limits, the entries so far, the ticks of each task since
 -- its last entry, and the task that had the last turn, or 0
@@ -75,6 +74,7 @@ pub record IsKept (o : Origin) (code : RawParts) (limits : Limits) (b : Board) :
   pub seated : AreSeated code o b.notes.entries b.store.shared.roster.tasks b.notes.ticks b.seats
   pub born : AllBorn code o b.notes.entries
   pub functions_are : b.notes.functions ≡ functions b.store.shared.roster.tasks
+  pub named : All (λ f. f < length code.layout.functions) b.notes.functions
   pub work_is : b.work ≡ work b.notes.entries (loose_of b.notes.ticks)
   pub within : b.work ≤ limits.budget
   pub room : limits.budget ≤ 100 * b.notes.room + 99

@@ -3,6 +3,7 @@ pub mod Boards
 pub mod Choosing
 pub mod Counting
 pub mod Desks
+pub mod EndStates
 pub mod Laws
 pub mod Notes
 pub mod Runs

@@ -104,9 +104,10 @@ pub record VictimAt (v : ℕ) (tasks : List Task) (old new : List Seat) : Type 0
       (y : Standing) (seat : Seat) → standing_in tasks v ≡ Some y → at_task old v ≡ Some seat →
       (is_live y ≡ false → at_task new v ≡ Some None) × (is_live y ≡ true → at_task new v ≡ Some seat)
 
-abbrev pub VictimSettled : Option ℕ → List Task → List Seat → List Seat → Type 0
-VictimSettled None tasks old new = new ≡ old
-VictimSettled (Some v) tasks old new = VictimAt v tasks old new
+-- those of the tasks that may be killed, one after another
+abbrev pub VictimsSettled : List ℕ → List Task → List Seat → List Seat → Type 0
+VictimsSettled [] tasks old new = new ≡ old
+VictimsSettled (v ∷ vs) tasks old new = (mid : List Seat) × VictimAt v tasks old mid × VictimsSettled vs tasks mid new
 
 -- where a task is started, its arguments fit its function, a machine is spare, and there is a seat
 abbrev pub CanStart : RawParts → Option Birth → List Seat → Type 0
@@ -123,12 +124,12 @@ BornSettled code None old new = new ≡ old
 BornSettled code (Some b) old new =
     (m : Runner) × (new ≡ old ++ Some m ∷ []) × ((x : Trail) → x.birth ≡ Some b → x.answers ≡ [] → moved code x 0 m)
 
--- the machines after an entry: of the task that asked, of the one that may be killed, of those that were answered, and of the new one
-pub record Settled (code : RawParts) (u : ℕ) (r : Reply) (v : Option ℕ) (tasks : List Task) (ds : List Delivery) (b : Option Birth) (old new : List Seat) : Type 0 where
+-- the machines after an entry: of the task that asked, of those that may be killed, of those that were answered, and of the new one
+pub record Settled (code : RawParts) (u : ℕ) (r : Reply) (vs : List ℕ) (tasks : List Task) (ds : List Delivery) (b : Option Birth) (old new : List Seat) : Type 0 where
   pub first : List Seat
   pub second : List Seat
   pub third : List Seat
   pub own : OwnSettled u r old first
-  pub victim : VictimSettled v tasks first second
+  pub victims : VictimsSettled vs tasks first second
   pub rest : Delivered ds second third
   pub born : BornSettled code b third new

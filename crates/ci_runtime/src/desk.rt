@@ -199,16 +199,18 @@ impl<'p> Desk<'p> {
         ending_at_rest(&self.board.store)
     }
 
-    /// What is kept of a run that ends so. Takes no memory.
+    /// What is kept of a run that ends so: its history, its loose ticks, and the state in which it ended. Takes no memory.
     pub fn into_ended(self, ending: Ending) -> Ended
         requires { EndsSo (state self) ending }
         ensures { IsEnd (state self.entry) result }
     {
         let work = self.work();
         let instructions = self.instructions();
+        let parts = self.code.parts();
+        let heads = parts.layout.functions.members();
         let board = self.board;
         let notes = board.notes;
-        notes.into_ended(work, instructions, ending)
+        notes.into_ended(&board.store, heads, work, instructions, ending)
     }
 }
 

@@ -5,23 +5,19 @@ ghost use Rattle.ci_base.specs.declared.limits.Ending.TheVariants.{Finished, Res
 ghost use Rattle.ci_store.specs.Stored.{live_tasks};
 ghost use Rattle.ci_world.specs.Work.{loose_from, loose_of};
 
-use ci_base::{Ending, Loose};
-use ci_history::History;
+use ci_base::{Ending, Loose, LooseList};
+use ci_history::{EndState, History};
 use ci_store::Store;
 
-/// What is kept of a run that has ended.
+/// What is kept of a run that has ended: its history, its loose ticks, and the state in which it ended.
 #[derive(Debug, Drop)]
 pub struct Ended {
     /// Its entries.
     pub history: History,
     /// The ticks that tasks made after their last entries, by rising numbers of tasks.
-    pub loose: Vec<Loose>,
-    /// Its work: the ticks of all entries, 100 for each entry, and all loose ticks.
-    pub work: u64,
-    /// How many instructions led to the entries; at most 9,223,372,036,854,775,807.
-    pub instructions: u64,
-    /// How it ended.
-    pub ending: Ending,
+    pub loose: LooseList,
+    /// How each task stands, the work, the instructions that led to the entries, and how the run ended.
+    pub end: EndState,
 }
 
 /// How a run ends where no event is left and no task can make a step. Takes no memory.

@@ -6,6 +6,7 @@ mod board;
 mod choice;
 mod desk;
 mod ended;
+mod ends;
 mod laws;
 mod notes;
 mod rounds;

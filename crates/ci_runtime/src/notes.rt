@@ -1,14 +1,18 @@
 //! What a run notes.
-ghost use Rattle.std.specs.Prelude.{◌≡◌, ◌<◌, ◌≤◌, Some, IfOk, IfSome, length};
+ghost use Rattle.std.specs.Prelude.{◌≡◌, ◌<◌, ◌≤◌, Some, All, IfOk, IfSome, length, map};
 ghost use Rattle.ci_base.specs.declared.bounds.TheConstants.{MOST_TASKS};
+ghost use Rattle.ci_shared.specs.Laws.{functions as functions_of};
 ghost use Rattle.ci_world.specs.Lists.{at_task};
 ghost use Rattle.ci_world.specs.Work.{loose_of};
+ghost use Rattle.ci_runtime.specs.EndStates.{task_end};
 ghost use Rattle.ci_runtime.specs.Notes.{nothing_noted, with_entry, with_ticks};
 
 use crate::ended::{Ended, add_loose};
+use crate::ends::add_ends;
 use ci_base::bounds::MOST_TASKS;
-use ci_base::{Birth, Ending, Entry, Loose, OutOfMemory};
-use ci_history::History;
+use ci_base::{Birth, Ending, Entry, Head, Loose, LooseList, OutOfMemory};
+use ci_history::{EndState, History, TaskEndList};
+use ci_store::Store;
 use std::alloc::Global;
 use std::marker::Model;
 
@@ -20,6 +24,8 @@ pub(crate) struct Notes {
     functions: Vec<u32>,
     /// Room for the loose ticks of all tasks.
     loose: Vec<Loose>,
+    /// Room for how all tasks stand at the end.
+    ends: TaskEndList,
 }
 
 impl Model for Notes {
@@ -31,7 +37,7 @@ impl Model for Notes {
 
     ghost view = { λ n. record { entries = n.history.entries; room = n.history.room; ticks = n.ticks.items; functions = n.functions.items } };
 
-    ghost invariant = { λ n. (vec_len n.functions ≡ vec_len n.ticks) × (MOST_TASKS ≤ vec_capacity n.ticks) × (vec_len n.ticks ≤ MOST_TASKS) × (MOST_TASKS ≤ vec_capacity n.functions) × (n.loose.items ≡ []) × (MOST_TASKS ≤ vec_capacity n.loose) };
+    ghost invariant = { λ n. (vec_len n.functions ≡ vec_len n.ticks) × (MOST_TASKS ≤ vec_capacity n.ticks) × (vec_len n.ticks ≤ MOST_TASKS) × (MOST_TASKS ≤ vec_capacity n.functions) × (n.loose.items ≡ []) × (MOST_TASKS ≤ vec_capacity n.loose) × (n.ends ≡ []) };
 }
 
 impl Notes {
@@ -49,11 +55,13 @@ impl Notes {
         let Ok(loose) = Vec::with_capacity(alloc, MOST_TASKS) else {
             return Err(OutOfMemory);
         };
+        let ends = TaskEndList::room(alloc)?;
         Ok(Notes {
             history,
             ticks,
             functions,
             loose,
+            ends,
         })
     }
 
@@ -109,22 +117,35 @@ impl Notes {
         self.functions.as_slice()
     }
 
-    /// What is kept of a run that ends so after so much work and so many instructions. Takes no memory.
-    pub fn into_ended(self, work: u64, instructions: u64, ending: Ending) -> Ended
+    /// What is kept of a run that ends so after so many instructions, with these functions and so much work. Takes no memory.
+    pub fn into_ended(
+        self,
+        store: &Store,
+        heads: &[Head],
+        work: u64,
+        instructions: u64,
+        ending: Ending,
+    ) -> Ended
+        requires heads { heads.now ≡ store.now.basis.functions }
+        requires functions { self.functions ≡ functions_of store.now.shared.roster.tasks }
+        requires named { All (λ f. f < length heads.now) self.functions }
         ensures history { result.history.entries ≡ self.entries }
-        ensures loose { result.loose.items ≡ loose_of self.ticks }
-        ensures work { result.work ≡ work }
-        ensures instructions { result.instructions ≡ instructions }
-        ensures ending { result.ending ≡ ending }
+        ensures loose { result.loose ≡ loose_of self.ticks }
+        ensures end { result.end ≡ record { tasks = map (task_end store.now.basis store.now.shared) store.now.shared.roster.tasks; work = work; instructions = instructions; ending = ending } }
     {
         let mut loose = self.loose;
+        let mut tasks = self.ends;
         add_loose(&mut loose, self.ticks.as_slice());
+        add_ends(&mut tasks, store, heads, self.functions.as_slice());
         Ended {
             history: self.history,
-            loose,
-            work,
-            instructions,
-            ending,
+            loose: LooseList::of(loose),
+            end: EndState {
+                tasks,
+                work,
+                instructions,
+                ending,
+            },
         }
     }
 }

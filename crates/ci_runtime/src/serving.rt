@@ -2,7 +2,7 @@
 ghost use Rattle.std.specs.Prelude.{◌≡◌, ◌≤◌, ◌<◌, ◌+◌, ◌^◌, Some, length};
 ghost use Rattle.ci_base.specs.declared.entry.Entry.TheVariants.{Ask, Script};
 ghost use Rattle.ci_base.specs.declared.reply.Reply.TheVariants.{Waits};
-ghost use Rattle.ci_shared.specs.Laws.{IsFormed, gained, victim as victim_by, victim_of as victim_by_event};
+ghost use Rattle.ci_shared.specs.Laws.{IsFormed, gained, victims, victims_of};
 ghost use Rattle.ci_shared.specs.Roster.{Ready, standing_at};
 ghost use Rattle.ci_shared.specs.Serving.{apply, script};
 ghost use Rattle.ci_store.specs.Stored.{after};
@@ -36,7 +36,7 @@ pub(crate) fn serve(
     ensures answered { result ≡ answers (apply store.old.basis store.old.shared task request).reply }
     ensures stored { store.new ≡ after store.old.basis (apply store.old.basis store.old.shared task request) }
     ensures noted { let served = apply store.old.basis store.old.shared task request in notes.new ≡ with_entry (with_ticks notes.old task 0) (Ask task used request served.reply) served.birth }
-    ensures settled { let served = apply store.old.basis store.old.shared task request in Settled code.now task served.reply (victim_by request) served.shared.roster.tasks served.deliveries served.birth seats.old seats.new }
+    ensures settled { let served = apply store.old.basis store.old.shared task request in Settled code.now task served.reply (victims request) served.shared.roster.tasks served.deliveries served.birth seats.old seats.new }
 {
     let reply = store.serve(task, &request);
     settle(seats, store, code, task, &reply, victim(&request));
@@ -67,7 +67,7 @@ pub(crate) fn happen(
     requires begins { CanBegin code.now (script store.old.basis store.old.shared event.now.what).birth seats.old notes.old.ticks }
     ensures stored { store.new ≡ after store.old.basis (script store.old.basis store.old.shared event.now.what) }
     ensures noted { let served = script store.old.basis store.old.shared event.now.what in notes.new ≡ with_entry notes.old (Script event.now served.reply) served.birth }
-    ensures settled { let served = script store.old.basis store.old.shared event.now.what in Settled code.now 0 Waits (victim_by_event event.now.what) served.shared.roster.tasks served.deliveries served.birth seats.old seats.new }
+    ensures settled { let served = script store.old.basis store.old.shared event.now.what in Settled code.now 0 Waits (victims_of event.now.what) served.shared.roster.tasks served.deliveries served.birth seats.old seats.new }
 {
     let reply = store.event(event);
     settle(seats, store, code, 0, &Reply::Waits, victim_of(&event.what));

@@ -1,7 +1,8 @@
 //! What an entry does to the machines.
-ghost use Rattle.std.specs.Prelude.{◌≡◌, ◌≤◌, Some, length, count_by};
-ghost use Rattle.ci_shared.specs.Laws.{victim as victim_by, victim_of as victim_by_event};
-ghost use Rattle.ci_runtime.specs.Seats.{CanStart, Delivered, OwnSettled, Settled, VictimSettled, is_taken};
+ghost use Rattle.std.specs.Option.{option_to_list};
+ghost use Rattle.std.specs.Prelude.{◌≡◌, ◌≤◌, length, count_by};
+ghost use Rattle.ci_shared.specs.Laws.{victims, victims_of};
+ghost use Rattle.ci_runtime.specs.Seats.{CanStart, Delivered, OwnSettled, Settled, VictimAt, VictimsSettled, is_taken};
 
 use crate::seats::Seats;
 use ci_base::{Delivery, EventKind, Reply, Request, Status};
@@ -20,7 +21,7 @@ pub(crate) fn settle(
     victim: Option<u32>,
 )
     requires { CanStart code.now store.now.birth seats.old }
-    ensures { Settled code.now task reply.now victim store.now.shared.roster.tasks store.now.deliveries store.now.birth seats.old seats.new }
+    ensures { Settled code.now task reply.now (option_to_list victim) store.now.shared.roster.tasks store.now.deliveries store.now.birth seats.old seats.new }
 {
     own(seats, task, reply);
     end_victim(seats, store, victim);
@@ -45,7 +46,7 @@ fn own(seats: &mut Seats, task: u32, reply: &Reply)
 
 /// The machine of the task that may have been killed is spare, where it is dead.
 fn end_victim(seats: &mut Seats, store: &Store, victim: Option<u32>)
-    ensures victim { VictimSettled victim store.now.shared.roster.tasks seats.old seats.new }
+    ensures victims { VictimsSettled (option_to_list victim) store.now.shared.roster.tasks seats.old seats.new }
     ensures long { length seats.new ≡ length seats.old }
     ensures few { count_by is_taken seats.new ≤ count_by is_taken seats.old }
 {
@@ -55,7 +56,7 @@ fn end_victim(seats: &mut Seats, store: &Store, victim: Option<u32>)
 }
 
 fn end_one(seats: &mut Seats, store: &Store, task: u32)
-    ensures victim { VictimSettled (Some task) store.now.shared.roster.tasks seats.old seats.new }
+    ensures victim { VictimAt task store.now.shared.roster.tasks seats.old seats.new }
     ensures long { length seats.new ≡ length seats.old }
     ensures few { count_by is_taken seats.new ≤ count_by is_taken seats.old }
 {
@@ -80,9 +81,9 @@ fn deliver(seats: &mut Seats, deliveries: &[Delivery])
     }
 }
 
-/// The task that a request may kill.
+/// The one task that a request may kill, or none.
 pub(crate) fn victim(request: &Request) -> Option<u32>
-    ensures { result ≡ victim_by request.now }
+    ensures { option_to_list result ≡ victims request.now }
 {
     match request {
         Request::TaskKill { n } => Some(whole(*n)),
@@ -90,9 +91,9 @@ pub(crate) fn victim(request: &Request) -> Option<u32>
     }
 }
 
-/// The task that an event may kill.
+/// The one task that an event may kill, or none.
 pub(crate) fn victim_of(event: &EventKind) -> Option<u32>
-    ensures { result ≡ victim_by_event event.now }
+    ensures { option_to_list result ≡ victims_of event.now }
 {
     match event {
         EventKind::Kill { n } => Some(whole(*n)),

@@ -1,4 +1,3 @@
-use Rattle.std.proofs.Common.{◌≡◌}
 use Rattle.ci_runtime.proofs.Choosing.{find_live}
 use Rattle.ci_runtime.proofs.choice.first_above.Goals as goal
 

@@ -1,4 +1,4 @@
-use Rattle.std.proofs.Common.{◌≡◌, ◌∙◌, ◌+◌, ◌++◌, List, ap, drop, sym, refl, arith}
+use Rattle.std.proofs.Common.{◌∙◌, ◌+◌, ◌++◌, List, ap, drop, sym, refl, arith}
 use Rattle.ci_base.specs.declared.list.Loose.{Loose}
 use Rattle.ci_world.specs.Work.{loose_from}
 use Rattle.ci_runtime.proofs.Closing.{loose_end, loose_more}

@@ -1,4 +1,4 @@
-use Rattle.std.proofs.Common.{◌≡◌, ◌∙◌, refl, subst}
+use Rattle.std.proofs.Common.{◌∙◌, refl, subst}
 use Rattle.ci_base.specs.declared.limits.Turn.{Turn}
 use Rattle.ci_runtime.specs.Desks.{RoundFrom, state}
 use Rattle.ci_runtime.proofs.Running.{rounds_begin, rounds_go, spent_ends}

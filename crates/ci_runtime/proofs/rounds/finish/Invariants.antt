@@ -1,4 +1,4 @@
-use Rattle.std.proofs.Common.{◌≡◌, ◌-◌}
+use Rattle.std.proofs.Common.{◌-◌}
 use Rattle.ci_runtime.specs.Desks.{IsSame, state, work_of}
 use Rattle.ci_runtime.specs.Runs.{RoundsFrom}
 use Rattle.ci_runtime.proofs.rounds.finish.Given as goal

@@ -1,4 +1,4 @@
-use Rattle.std.proofs.Common.{◌≡◌, ◌<◌, ◌≤◌, ◌+◌, [], ℕ, vec_len, vec_capacity}
+use Rattle.std.proofs.Common.{◌≡◌, ◌≤◌, vec_len, vec_capacity}
 use Rattle.ci_base.specs.declared.bounds.TheConstants.{MOST_LIVE_TASKS}
 use Rattle.ci_runtime.proofs.seats.machines.Given as goal
 

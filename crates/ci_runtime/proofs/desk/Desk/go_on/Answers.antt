@@ -1,4 +1,4 @@
-use Rattle.std.proofs.Common.{◌≡◌, ◌<◌, ◌≤◌, ◌+◌, ◌-◌, ◌^◌, ℕ, refl, sym, ap, ◌∙◌, subst, arith, min}
+use Rattle.std.proofs.Common.{◌≤◌, ◌+◌, ◌-◌, ℕ, refl, ap, ◌∙◌, arith, min}
 use Rattle.ci_runtime.specs.Desks.{origin_of, state}
 use Rattle.ci_runtime.specs.declared.board.Board.{Board}
 use Rattle.ci_runtime.proofs.Entering.{tasks_stay, ask_begins, ask_counted, ask_formed, ask_there, room_left, work_grows}

@@ -1,4 +1,4 @@
-use Rattle.std.proofs.Common.{◌≡◌, [], None, List, map, refl, sym, ap, ◌∙◌, subst}
+use Rattle.std.proofs.Common.{◌≡◌, [], None, List, map, refl, subst}
 use Rattle.ci_base.specs.declared.event.Event.{Event}
 use Rattle.ci_script.specs.Scripts.{IsScript}
 use Rattle.ci_base.specs.declared.layout.CellHead.{CellHead}
@@ -8,7 +8,6 @@ use Rattle.ci_runtime.specs.declared.board.Board.{Board}
 use Rattle.ci_runtime.proofs.Beginning.{kept_first, usable}
 use Rattle.ci_shared.specs.Laws.{opening}
 use Rattle.ci_shared.specs.Started.{basis_of}
-use Rattle.ci_store.specs.Stored.{Stored}
 use Rattle.ci_runtime.proofs.desk.Desk.start.Goals as goal
 
 pub start-requires : goal.start-requires

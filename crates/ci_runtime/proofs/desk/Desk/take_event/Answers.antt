@@ -1,4 +1,4 @@
-use Rattle.std.proofs.Common.{◌≡◌, ◌+◌, ◌≤◌, ◌<◌, ◌^◌, Some, List, length, slice_get, refl, sym, ap, ◌∙◌, arith, subst}
+use Rattle.std.proofs.Common.{◌≡◌, Some, List, length, slice_get, ap, arith, subst}
 use Rattle.ci_base.specs.declared.event.Event.{Event}
 use Rattle.ci_runtime.specs.Desks.{state}
 use Rattle.ci_runtime.proofs.Entering.{event_begins, event_early, front_due, front_there, next_early, rest_now, room_left, work_grows}

@@ -1,5 +1,5 @@
-use Rattle.std.proofs.Common.{◌≡◌, ◌∙◌, ℕ, ap, sym, refl, subst, arith, Some, None, Option}
-use Rattle.ci_runtime.specs.Desks.{CanGoOn, DeskValue, DoesFrom, IsSame, state}
+use Rattle.std.proofs.Common.{◌≡◌, ◌∙◌, ℕ, ap, sym, refl, subst, arith, Option}
+use Rattle.ci_runtime.specs.Desks.{CanGoOn, DeskValue, DoesFrom, state}
 use Rattle.ci_runtime.proofs.Rounding.{TurnSoFar, turn_begins, turn_goes, turn_ends}
 use Rattle.ci_runtime.proofs.desk.Desk.turn.Goals as goal
 

@@ -1,4 +1,4 @@
-use Rattle.std.proofs.Common.{◌≡◌, ◌≤◌, ◌-◌}
+use Rattle.std.proofs.Common.{◌≤◌, ◌-◌}
 use Rattle.ci_runtime.specs.Desks.{IsSame, CanGoOn, work_of, state}
 use Rattle.ci_runtime.proofs.Rounding.{TurnSoFar}
 use Rattle.ci_runtime.proofs.desk.Desk.turn.Given as goal

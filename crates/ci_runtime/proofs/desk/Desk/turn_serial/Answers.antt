@@ -1,4 +1,4 @@
-use Rattle.std.proofs.Common.{◌≡◌, ◌<◌, refl, sym, ap, ◌∙◌, arith, subst}
+use Rattle.std.proofs.Common.{ap, subst}
 use Rattle.ci_runtime.specs.Desks.{Chooses, state}
 use Rattle.ci_runtime.specs.declared.choice.Choice.{Choice}
 use Rattle.ci_runtime.proofs.Rounding.{round_end, round_stop, round_event, can_in, turn_in, not_end_event, not_end_turn}

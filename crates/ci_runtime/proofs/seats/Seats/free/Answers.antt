@@ -1,4 +1,4 @@
-use Rattle.std.proofs.Common.{◌≡◌, ◌≤◌, ◌-◌, ◌∙◌, ap, sym, arith, refl, length, subst, List, set}
+use Rattle.std.proofs.Common.{◌-◌, ap, arith, refl, length, subst, List, set}
 use Rattle.ci_runtime.specs.Seats.{Seat, FreedAt}
 use Rattle.ci_runtime.proofs.Placing.{freed_one, freed_out}
 use Rattle.ci_runtime.proofs.seats.Seats.free.Goals as goal

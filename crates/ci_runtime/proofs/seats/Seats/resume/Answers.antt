@@ -1,4 +1,4 @@
-use Rattle.std.proofs.Common.{◌≡◌, ◌≤◌, ◌∙◌, ap, sym, arith, refl, length, subst, List}
+use Rattle.std.proofs.Common.{◌∙◌, ap, sym, arith, length, subst, List}
 use Rattle.ci_runtime.specs.Seats.{Seat, ResumedAt}
 use Rattle.ci_runtime.proofs.Placing.{resumed_some, resumed_none, resumed_out}
 use Rattle.ci_runtime.proofs.seats.Seats.resume.Goals as goal

@@ -1,4 +1,4 @@
-use Rattle.std.proofs.Common.{◌≡◌, ◌≤◌, ◌∙◌, ℕ, Some, ap, sym, arith, refl, length, subst, List}
+use Rattle.std.proofs.Common.{◌≡◌, ◌∙◌, Some, ap, sym, subst, List}
 use Rattle.ci_task.specs.declared.machine.Pause.{Pause}
 use Rattle.ci_runtime.specs.Seats.{Seat, RanAt}
 use Rattle.ci_runtime.proofs.Placing.{ran_some, no_machine}
