@@ -2,27 +2,37 @@
 use Rattle.std.proofs.Common.{◌≡◌, ℕ, ◌<◌, ◌≤◌, true, false, List, [], ◌∷◌, ◌++◌, length, Option, Some, None, Result, Ok, Err, IsSomeAnd, refl, sym, ◌∙◌, ap, subst, arith, inl, inr}
 use Rattle.std.specs.FinMap.{get}
 use Rattle.std.specs.List.{slice_get}
+use Rattle.ci_base.specs.declared.entry.Entry.{Entry}
+use Rattle.ci_base.specs.declared.event.Event.{Event}
+use Rattle.ci_base.specs.declared.limits.Ending.{Ending}
+use Rattle.ci_base.specs.declared.limits.Limits.{Limits}
+use Rattle.ci_base.specs.declared.list.Loose.{Loose}
 use Rattle.ci_outside.specs.Causes.{Rose}
 use Rattle.ci_outside.specs.Shelf.{Files, HasFile}
+use Rattle.ci_runtime.specs.Runs.{IsSerialRun}
+use Rattle.ci_script.specs.declared.fault.ScriptFault.{ScriptFault}
+use Rattle.ci_script.specs.Scripts.{Told, told, script_fault, events}
 use Rattle.ci_source.specs.declared.fault.Fault.{Fault}
-use Rattle.ci_source.specs.Compiling.{HasFirstFault, compiles, parse_to}
-use Rattle.ci_source.specs.FirstForm.{files_form}
-use Rattle.ci_source.specs.Laws.{HaveOneFirstFault, NeverBothMeanings, HaveOneProject, HaveOneTrees}
+use Rattle.ci_source.specs.Compiling.{HasFirstFault, compiles}
+use Rattle.ci_source.specs.Laws.{HaveOneFirstFault, NeverBothMeanings, HaveOneProject}
 use Rattle.ci_tree.specs.Bound.{Project}
-use Rattle.ci_tree.specs.declared.trace_project.TraceProject.{TraceProject}
 use Rattle.ci_words.specs.declared.command.Command.{Command}
 use Rattle.ci_words.specs.declared.command.Command.TheVariants as commands
 use Rattle.ci_words.specs.declared.fault.WordFault.{WordFault}
 use Rattle.ci_words.specs.declared.order.Order.{Order}
 use Rattle.ci_words.specs.Order.{Orders}
 use Rattle.ci_words.proofs.Answer.{one_answer}
+use Rattle.ci_world.specs.Laws.{OneSerial}
+use Rattle.ci_world.specs.Serial.{Progress, Serial, loose as loose_ticks}
+use Rattle.ci_world.specs.World.{Origin}
 use Rattle.ci_top.specs.declared.decision.FileFault.{FileFault}
 use Rattle.ci_top.specs.declared.decision.FileFault.TheVariants as faults
-use Rattle.ci_top.specs.Answers.{Kept, words_refused, workers_refused, order_not_built, not_fetched, source_refused, form_refused, checked, listed, no_memory, ran, FaultHolds, ComesTo, HasAll, Compiles, RunsAs, HasNoForm, IsRun, IsRefused, IsOfNoForm, IsListed}
-use Rattle.ci_top.specs.Asked.{names_of, wanted_of, is_built, AskFor, AskForWorkers, AreRefused}
+use Rattle.ci_top.specs.Answers.{Kept, Cause, words_refused, workers_refused, order_not_built, not_fetched, source_refused, script_refused, checked, listed, no_memory, ran, Holds, FaultHolds, Compiles, IsRun, IsRefused, IsScriptRefused, IsListed}
+use Rattle.ci_top.specs.Asked.{wanted_of, wanted_sources, wanted_scripts, is_built, AskFor, AskForWorkers, AreRefused, AsksRun}
 use Rattle.ci_top.specs.Fetching.{Wanted, Fetched}
-use Rattle.ci_top.specs.OneCause.{OneCause}
-use Rattle.ci_top.specs.World.{World}
+use Rattle.ci_top.specs.OneCause.{OneCause, IsOneRun}
+use Rattle.ci_top.specs.Reading.{Texts, ComesTo, HasAll, texts_by, fetched_texts, names_told}
+use Rattle.ci_top.proofs.Fetching.{Fetched-append}
 
 option_clash : {A : Type 0} (x : A) (o : Option A) → o ≡ None → o ≡ Some x → ⊥
 option_clash {A} x o none some =
@@ -156,20 +166,34 @@ one_wanted : (words : List (List ℕ)) (asked other : Order) → AskFor words as
 one_wanted words asked other one two = ap (wanted_of words) (one_order words asked other one.words_are two.words_are)
 
 -- where a file is at fault, not all files were fetched
-pub not_all : (words : List (List ℕ)) (files : Files) (before now number : ℕ) (fault : FileFault) (file : Wanted) (contents : List (List ℕ)) → (Rose before now → ⊥) → ComesTo words (Some files) number file
-    → FaultHolds (Some files) before now fault file → HasAll words (Some files) contents → ⊥
-not_all words files before now number fault file contents calm comes holds all =
+pub not_all : (words : List (List ℕ)) (files : Files) (before now number : ℕ) (fault : FileFault) (file : Wanted) (texts : Texts) → (Rose before now → ⊥) → ComesTo words (Some files) number file
+    → FaultHolds (Some files) before now fault file → HasAll words (Some files) texts → ⊥
+not_all words files before now number fault file texts calm comes holds all =
+    let whole : Fetched (Some files) (wanted_of words all.asked) (all.sources ++ all.scripts) =
+    Fetched-append (Some files) (wanted_sources words all.asked) (wanted_scripts words all.asked) all.sources all.scripts all.sources_fetched all.scripts_fetched in
     let wanted : wanted_of words all.asked ≡ comes.next.before ++ file ∷ comes.next.after =
     one_wanted words all.asked comes.asked all.asks comes.asks ∙ comes.next.wanted_are in
-    let Family : List Wanted → Type 0 = λ l. Fetched (Some files) l contents in
-    let found : (content : List ℕ) × IsThere files content file = fetched-at files comes.next.before comes.next.after file contents (subst Family wanted all.fetched) in
+    let Family : List Wanted → Type 0 = λ l. Fetched (Some files) l (all.sources ++ all.scripts) in
+    let found : (content : List ℕ) × IsThere files content file = fetched-at files comes.next.before comes.next.after file (all.sources ++ all.scripts) (subst Family wanted whole) in
     fetched-no_fault files before now fault file found.0 calm found.1.0 found.1.1 holds
 
--- all files have one list of contents
-pub all_contents : (words : List (List ℕ)) (files : Files) (contents contents' : List (List ℕ)) → HasAll words (Some files) contents → HasAll words (Some files) contents' → contents ≡ contents'
-all_contents words files contents contents' one two =
-    let Family : List Wanted → Type 0 = λ l. Fetched (Some files) l contents' in
-    one_contents files (wanted_of words one.asked) contents contents' one.fetched (subst Family (one_wanted words two.asked one.asked two.asks one.asks) two.fetched)
+-- the words ask for one order
+same_asked : (words : List (List ℕ)) (files : Option Files) (texts texts' : Texts) (one : HasAll words files texts) (two : HasAll words files texts') → one.asked ≡ two.asked
+same_asked words files texts texts' one two = one_order words one.asked two.asked one.asks.words_are two.asks.words_are
+
+-- it works on one thing
+pub same_texts : (words : List (List ℕ)) (files : Files) (texts texts' : Texts) → HasAll words (Some files) texts → HasAll words (Some files) texts' → texts ≡ texts'
+same_texts words files texts texts' one two =
+    let asked : one.asked ≡ two.asked = same_asked words (Some files) texts texts' one two in
+    let Sources : Order → Type 0 = λ a. Fetched (Some files) (wanted_sources words a) two.sources in
+    let Scripts : Order → Type 0 = λ a. Fetched (Some files) (wanted_scripts words a) two.scripts in
+    let sources : one.sources ≡ two.sources =
+    one_contents files (wanted_sources words one.asked) one.sources two.sources one.sources_fetched (subst Sources (sym asked) two.sources_fetched) in
+    let scripts : one.scripts ≡ two.scripts =
+    one_contents files (wanted_scripts words one.asked) one.scripts two.scripts one.scripts_fetched (subst Scripts (sym asked) two.scripts_fetched) in
+    one.texts_are ∙ ap (λ (a : Order). texts_by a.command a.number (fetched_texts one.sources one.scripts)) asked
+    ∙ ap (λ s. texts_by two.asked.command two.asked.number (fetched_texts s one.scripts)) sources
+    ∙ ap (λ s. texts_by two.asked.command two.asked.number (fetched_texts two.sources s)) scripts ∙ sym two.texts_are
 
 -- two files at fault are one
 same_file : (words : List (List ℕ)) (files : Files) (before now : ℕ) (fault other : FileFault) (number number' : ℕ) (file file' : Wanted) → (Rose before now → ⊥)
@@ -193,261 +217,341 @@ one_member xs ys i j x y lists indexes one two =
     let same : Some x ≡ Some y = sym one ∙ both ∙ two in
     cc
 
--- the names of the files of the order
-one_names : (words : List (List ℕ)) (files : Files) (contents contents' : List (List ℕ)) (one : HasAll words (Some files) contents) (two : HasAll words (Some files) contents') → names_of words one.asked ≡ names_of words two.asked
-one_names words files contents contents' one two = ap (names_of words) (one_order words one.asked two.asked one.asks.words_are two.asks.words_are)
-
 -- sources are refused in one way
 same_refusal : HaveOneFirstFault → (words : List (List ℕ)) (files : Files) (name name' source source' : List ℕ) (fault fault' : Fault) (offset offset' : ℕ)
     → IsRefused words (Some files) name source fault offset → IsRefused words (Some files) name' source' fault' offset' → source_refused name source fault offset ≡ source_refused name' source' fault' offset'
 same_refusal one_fault words files name name' source source' fault fault' offset offset' one two =
-    let lists : one.contents ≡ two.contents = all_contents words files one.contents two.contents one.read two.read in
+    let lists : one.texts.sources ≡ two.texts.sources = ap (λ (t : Texts). t.sources) (same_texts words files one.texts two.texts one.read two.read) in
     let Family : List (List ℕ) → Type 0 = λ l. HasFirstFault l two.file fault' offset' in
     let found : (one.file ≡ two.file) × (fault ≡ fault') × (offset ≡ offset') =
-    one_fault one.contents one.file two.file fault fault' offset offset' one.refused (subst Family (sym lists) two.refused) in
-    let names : name ≡ name' = one_member _ _ one.file two.file name name' (one_names words files one.contents two.contents one.read two.read) found.0 one.name_is two.name_is in
-    let sources : source ≡ source' = one_member one.contents two.contents one.file two.file source source' lists found.0 one.source_is two.source_is in
+    one_fault one.texts.sources one.file two.file fault fault' offset offset' one.refused (subst Family (sym lists) two.refused) in
+    let named : names_told words one.read.asked ≡ names_told words two.read.asked = ap (names_told words) (same_asked words (Some files) one.texts two.texts one.read two.read) in
+    let names : name ≡ name' = one_member _ _ one.file two.file name name' named found.0 one.name_is two.name_is in
+    let sources : source ≡ source' = one_member one.texts.sources two.texts.sources one.file two.file source source' lists found.0 one.source_is two.source_is in
     let faults_same : fault ≡ fault' = found.1 in
     let offsets_same : offset ≡ offset' = found.2 in
     cc
 
 -- sources that are refused don't compile
-pub refused-not_compiled : NeverBothMeanings → (words : List (List ℕ)) (files : Files) (name source : List ℕ) (fault : Fault) (offset : ℕ) (contents : List (List ℕ))
-    → IsRefused words (Some files) name source fault offset → HasAll words (Some files) contents → Compiles contents → ⊥
-refused-not_compiled never_both words files name source fault offset contents refused read compiled =
-    let Family : List (List ℕ) → Type 0 = λ l. HasFirstFault l refused.file fault offset in
-    never_both contents compiled.0 refused.file fault offset compiled.1
-    (subst Family (all_contents words files refused.contents contents refused.read read) refused.refused)
-
--- sources are of the form that can be run, or of another
-pub form_clash : HaveOneTrees → (sources sources' : List (List ℕ)) (project : TraceProject) → sources ≡ sources' → RunsAs sources project → HasNoForm sources' → ⊥
-form_clash one_trees sources sources' project same runs none =
-    let Family : List (List ℕ) → Type 0 = λ l. parse_to l none.trees in
-    let trees_same : runs.trees ≡ none.trees = one_trees sources runs.trees none.trees runs.parsed (subst Family (sym same) none.parsed) in
-    option_clash project (files_form none.trees) none.no_form (sym (ap files_form trees_same) ∙ runs.form)
+pub refused-not_compiled : NeverBothMeanings → (words : List (List ℕ)) (files : Files) (name source : List ℕ) (fault : Fault) (offset : ℕ) (texts : Texts)
+    → IsRefused words (Some files) name source fault offset → HasAll words (Some files) texts → Compiles texts.sources → ⊥
+refused-not_compiled never_both words files name source fault offset texts refused read compiled =
+    let Family : Texts → Type 0 = λ t. HasFirstFault t.sources refused.file fault offset in
+    never_both texts.sources compiled.0 refused.file fault offset compiled.1
+    (subst Family (same_texts words files refused.texts texts refused.read read) refused.refused)
 
 -- an order has one command
-pub command_clash : (words : List (List ℕ)) (files : Option Files) (contents contents' : List (List ℕ)) (one : HasAll words files contents) (two : HasAll words files contents') (c d : Command)
+pub command_clash : (words : List (List ℕ)) (files : Option Files) (texts texts' : Texts) (one : HasAll words files texts) (two : HasAll words files texts') (c d : Command)
     → one.asked.command ≡ c → two.asked.command ≡ d → (c ≡ d → ⊥) → ⊥
-command_clash words files contents contents' one two c d is_c is_d differ =
-    differ (sym is_c ∙ ap (λ o. o.command) (one_order words one.asked two.asked one.asks.words_are two.asks.words_are) ∙ is_d)
+command_clash words files texts texts' one two c d is_c is_d differ =
+    differ (sym is_c ∙ ap (λ (o : Order). o.command) (same_asked words files texts texts' one two) ∙ is_d)
 
-pub run-not_check : commands.Run ≡ commands.Check → ⊥
-run-not_check same =
-    let Family : Command → Type 0 = λ c. elim c [ commands.Run ↦ Unit {0} | commands.Check ↦ ⊥ | commands.List ↦ Unit {0} | commands.Replay ↦ Unit {0} | commands.Make ↦ Unit {0} ] in
-    subst Family same tt
+-- commands by their numbers
+abbrev pub command_number : Command → ℕ
+command_number commands.Run = 0
+command_number commands.Check = 1
+command_number commands.List = 2
+command_number commands.Replay = 3
+command_number commands.Make = 4
 
-pub run-not_list : commands.Run ≡ commands.List → ⊥
-run-not_list same =
-    let Family : Command → Type 0 = λ c. elim c [ commands.Run ↦ Unit {0} | commands.Check ↦ Unit {0} | commands.List ↦ ⊥ | commands.Replay ↦ Unit {0} | commands.Make ↦ Unit {0} ] in
-    subst Family same tt
+pub differs : (c d : Command) → (command_number c ≡ command_number d → ⊥) → c ≡ d → ⊥
+differs c d other same = other (ap command_number same)
 
 pub check-not_list : commands.Check ≡ commands.List → ⊥
-check-not_list same =
-    let Family : Command → Type 0 = λ c. elim c [ commands.Run ↦ Unit {0} | commands.Check ↦ Unit {0} | commands.List ↦ ⊥ | commands.Replay ↦ Unit {0} | commands.Make ↦ Unit {0} ] in
-    subst Family same tt
+check-not_list = differs commands.Check commands.List (λ e. omega arith)
+
+pub run-not_make : commands.Run ≡ commands.Make → ⊥
+run-not_make = differs commands.Run commands.Make (λ e. omega arith)
+
+-- the command of a run
+abbrev pub IsRunning : Command → Type 0
+IsRunning commands.Run = Unit {0}
+IsRunning commands.Check = ⊥
+IsRunning commands.List = ⊥
+IsRunning commands.Replay = ⊥
+IsRunning commands.Make = Unit {0}
+
+pub running : (asked : Order) (size : Option ℕ) → AsksRun asked size → IsRunning asked.command
+running asked None runs = subst IsRunning (sym runs) tt
+running asked (Some size) runs = subst IsRunning (sym runs.0) tt
+
+-- an order to run asks for nothing else
+pub runs_clash : (words : List (List ℕ)) (files : Option Files) (texts texts' : Texts) (one : HasAll words files texts) (two : HasAll words files texts') (size : Option ℕ) (c : Command)
+    → AsksRun one.asked size → two.asked.command ≡ c → (IsRunning c → ⊥) → ⊥
+runs_clash words files texts texts' one two size c runs is_c other =
+    other (subst IsRunning (ap (λ (o : Order). o.command) (same_asked words files texts texts' one two) ∙ is_c) (running one.asked size runs))
+
+-- it runs one thing
+same_size : (asked asked' : Order) (size size' : Option ℕ) → asked ≡ asked' → AsksRun asked size → AsksRun asked' size' → size ≡ size'
+same_size asked asked' None None same one two = refl
+same_size asked asked' None (Some n) same one two = absurd (run-not_make (sym one ∙ ap (λ (o : Order). o.command) same ∙ two.0))
+same_size asked asked' (Some n) None same one two = absurd (run-not_make (sym two ∙ ap (λ (o : Order). o.command) (sym same) ∙ one.0))
+same_size asked asked' (Some n) (Some m) same one two = ap Some (sym one.1 ∙ ap (λ (o : Order). o.number) same ∙ two.1)
 
 -- the listings of the same files are of one project
 same_listed : HaveOneProject → (words : List (List ℕ)) (files : Files) (project project' : Project) → IsListed words (Some files) project → IsListed words (Some files) project' → project ≡ project'
 same_listed one_project words files project project' one two =
-    let Family : List (List ℕ) → Type 0 = λ l. compiles l project' in
-    one_project one.contents project project' one.compiled (subst Family (sym (all_contents words files one.contents two.contents one.read two.read)) two.compiled)
+    let Family : Texts → Type 0 = λ t. compiles t.sources project' in
+    one_project one.texts.sources project project' one.compiled (subst Family (sym (same_texts words files one.texts two.texts one.read two.read)) two.compiled)
 
--- the first of the files has one name
-same_first : (words : List (List ℕ)) (files : Files) (name name' : List ℕ) → IsOfNoForm words (Some files) name → IsOfNoForm words (Some files) name' → name ≡ name'
-same_first words files name name' one two = one_member _ _ 0 0 name name' (one_names words files one.contents two.contents one.read two.read) refl one.name_is two.name_is
-
--- two runs of the same files are of one project
-same_project : HaveOneTrees → (words : List (List ℕ)) (files : Files) (kept kept' : Kept) (project project' : TraceProject) (world world' : World)
-    → IsRun words (Some files) kept project world → IsRun words (Some files) kept' project' world' → project ≡ project'
-same_project one_trees words files kept kept' project project' world world' one two =
-    let Family : List (List ℕ) → Type 0 = λ l. parse_to l two.compiled.trees in
-    let sources_same : one.contents ≡ two.contents = all_contents words files one.contents two.contents one.read two.read in
-    let trees_same : one.compiled.trees ≡ two.compiled.trees =
-    one_trees one.contents one.compiled.trees two.compiled.trees one.compiled.parsed (subst Family (sym sources_same) two.compiled.parsed) in
-    let both : Some project ≡ Some project' = sym one.compiled.form ∙ ap files_form trees_same ∙ two.compiled.form in
+-- a script says one thing
+same_fault_told : (script : List ℕ) (fault fault' : ScriptFault) → script_fault script fault → script_fault script fault' → fault ≡ fault'
+same_fault_told script fault fault' one two =
+    let left : Told = Err fault in
+    let same : left ≡ Err fault' = sym one ∙ two in
     cc
 
+pub told_clash : (script : List ℕ) (fault : ScriptFault) (es : List Event) → script_fault script fault → events script es → ⊥
+told_clash script fault es one two =
+    let Family : Told → Type 0 = λ r. elim r [ Ok a ↦ ⊥ | Err e ↦ Unit {0} ] in
+    subst Family (sym one ∙ two) tt
+
+same_events : (script : List ℕ) (es es' : List Event) → events script es → events script es' → es ≡ es'
+same_events script es es' one two =
+    let left : Told = Ok es in
+    let same : left ≡ Ok es' = sym one ∙ two in
+    cc
+
+-- scripts are refused in one way
+same_script : (words : List (List ℕ)) (files : Files) (fault fault' : ScriptFault) → IsScriptRefused words (Some files) fault → IsScriptRefused words (Some files) fault' → fault ≡ fault'
+same_script words files fault fault' one two =
+    let Family : Texts → Type 0 = λ t. script_fault t.script fault' in
+    same_fault_told one.texts.script fault fault' one.refused (subst Family (sym (same_texts words files one.texts two.texts one.read two.read)) two.refused)
+
+-- a script that is refused isn't run
+pub script_clash : (words : List (List ℕ)) (files : Files) (fault : ScriptFault) (texts : Texts) (es : List Event) → IsScriptRefused words (Some files) fault → HasAll words (Some files) texts → events texts.script es → ⊥
+script_clash words files fault texts es one read scripted =
+    let Family : Texts → Type 0 = λ t. script_fault t.script fault in
+    told_clash texts.script fault es (subst Family (same_texts words files one.texts texts one.read read) one.refused) scripted
+
+same_origin : (o p : Origin) → o.project ≡ p.project → o.events ≡ p.events → o ≡ p
+same_origin o p projects scripts =
+    let with_project : Project → Origin = λ x. record { project = x; events = o.events } in
+    let with_events : List Event → Origin = λ x. record { project = p.project; events = x } in
+    ap with_project projects ∙ ap with_events scripts
+
+kept_by_fields : (k l : Kept) → k.history ≡ l.history → k.loose ≡ l.loose → k.ending ≡ l.ending → k ≡ l
+kept_by_fields k l histories looses endings =
+    let with_history : List Entry → Kept = λ x. record { history = x; loose = k.loose; ending = k.ending } in
+    let with_loose : List Loose → Kept = λ x. record { history = l.history; loose = x; ending = k.ending } in
+    let with_ending : Ending → Kept = λ x. record { history = l.history; loose = l.loose; ending = x } in
+    ap with_history histories ∙ ap with_loose looses ∙ ap with_ending endings
+
+-- there is one round-robin run of an origin
+same_kept : OneSerial → (origin : Origin) (limits : Limits) (kept kept' : Kept) (instructions others : ℕ) → IsSerialRun origin limits kept.history kept.loose instructions kept.ending
+    → IsSerialRun origin limits kept'.history kept'.loose others kept'.ending → kept ≡ kept'
+same_kept one_serial origin limits kept kept' instructions others one two =
+    let same : (one.serial ≡ two.serial) × (kept.ending ≡ kept'.ending) =
+    one_serial origin limits one.serial two.serial kept.ending kept'.ending one.rounds two.rounds in
+    let history : kept.history ≡ kept'.history = sym one.history_is ∙ ap (λ (s : Progress). s.history) same.0 ∙ two.history_is in
+    let loose : kept.loose ≡ kept'.loose = sym one.loose_are ∙ ap loose_ticks same.0 ∙ two.loose_are in
+    kept_by_fields kept kept' history loose same.1
+
+-- two runs of the same words are one
+same_run : HaveOneProject → OneSerial → (words : List (List ℕ)) (files : Files) (kept kept' : Kept) (size size' : Option ℕ) (origin origin' : Origin) (instructions others : ℕ)
+    → IsRun words (Some files) kept size origin instructions → IsRun words (Some files) kept' size' origin' others
+    → IsOneRun kept kept' (ran size origin instructions) (ran size' origin' others)
+same_run one_project one_serial words files kept kept' size size' origin origin' instructions others one two =
+    let texts : one.texts ≡ two.texts = same_texts words files one.texts two.texts one.read two.read in
+    let asked : one.read.asked ≡ two.read.asked = same_asked words (Some files) one.texts two.texts one.read two.read in
+    let Compiled : Texts → Type 0 = λ t. compiles t.sources origin'.project in
+    let Scripted : Texts → Type 0 = λ t. events t.script origin'.events in
+    let origins : origin ≡ origin' = same_origin origin origin'
+    (one_project one.texts.sources origin.project origin'.project one.compiled (subst Compiled (sym texts) two.compiled))
+    (same_events one.texts.script origin.events origin'.events one.scripted (subst Scripted (sym texts) two.scripted)) in
+    let OfOrigin : Origin → Type 0 = λ o. IsSerialRun o two.read.asked.limits kept'.history kept'.loose others kept'.ending in
+    let OfOrder : Order → Type 0 = λ a. IsSerialRun origin a.limits kept'.history kept'.loose others kept'.ending in
+    let sizes : size ≡ size' = same_size one.read.asked two.read.asked size size' asked one.runs two.runs in
+    record {
+      size = size;
+      origin = origin;
+      instructions = instructions;
+      others = others;
+      one = refl;
+      two = let back : origin' ≡ origin = sym origins in let size_back : size' ≡ size = sym sizes in cc;
+      kept_same = same_kept one_serial origin one.read.asked.limits kept kept' instructions others one.run (subst OfOrder (sym asked) (subst OfOrigin (sym origins) two.run));
+    }
+
 -- two causes that hold agree
-pub one_cause_lem : HaveOneFirstFault → NeverBothMeanings → HaveOneProject → HaveOneTrees → OneCause
-one_cause_lem one_fault never_both one_project one_trees words files before now kept kept' (words_refused fault) (words_refused fault') calm one two =
+pub one_cause_lem : HaveOneFirstFault → NeverBothMeanings → HaveOneProject → OneSerial → OneCause
+one_cause_lem one_fault never_both one_project one_serial words files before now kept kept' (words_refused fault) (words_refused fault') calm one two =
     inl (ap words_refused (one_refusal words fault fault' one.1 two.1))
-one_cause_lem one_fault never_both one_project one_trees words files before now kept kept' (words_refused fault) (workers_refused index') calm one two =
+one_cause_lem one_fault never_both one_project one_serial words files before now kept kept' (words_refused fault) (workers_refused index') calm one two =
     absurd (order_clash words two.1.asked fault two.1.words_are one.1)
-one_cause_lem one_fault never_both one_project one_trees words files before now kept kept' (words_refused fault) order_not_built calm one two =
+one_cause_lem one_fault never_both one_project one_serial words files before now kept kept' (words_refused fault) order_not_built calm one two =
     absurd (order_clash words two.1.asked fault two.1.words_are one.1)
-one_cause_lem one_fault never_both one_project one_trees words files before now kept kept' (words_refused fault) (not_fetched f' number' name') calm one two =
+one_cause_lem one_fault never_both one_project one_serial words files before now kept kept' (words_refused fault) (not_fetched f' number' name') calm one two =
     absurd (refused-not_asked words two.1.asked (inl (fault, one.1)) two.1.asks)
-one_cause_lem one_fault never_both one_project one_trees words files before now kept kept' (words_refused fault) (source_refused name' source' fault' offset') calm one two =
+one_cause_lem one_fault never_both one_project one_serial words files before now kept kept' (words_refused fault) (source_refused name' source' fault' offset') calm one two =
     absurd (refused-not_asked words two.1.read.asked (inl (fault, one.1)) two.1.read.asks)
-one_cause_lem one_fault never_both one_project one_trees words files before now kept kept' (words_refused fault) (form_refused name') calm one two =
+one_cause_lem one_fault never_both one_project one_serial words files before now kept kept' (words_refused fault) (script_refused fault') calm one two =
     absurd (refused-not_asked words two.1.read.asked (inl (fault, one.1)) two.1.read.asks)
-one_cause_lem one_fault never_both one_project one_trees words files before now kept kept' (words_refused fault) checked calm one two =
+one_cause_lem one_fault never_both one_project one_serial words files before now kept kept' (words_refused fault) checked calm one two =
     absurd (refused-not_asked words two.1.read.asked (inl (fault, one.1)) two.1.read.asks)
-one_cause_lem one_fault never_both one_project one_trees words files before now kept kept' (words_refused fault) (listed project') calm one two =
+one_cause_lem one_fault never_both one_project one_serial words files before now kept kept' (words_refused fault) (listed project') calm one two =
     absurd (refused-not_asked words two.1.read.asked (inl (fault, one.1)) two.1.read.asks)
-one_cause_lem one_fault never_both one_project one_trees words files before now kept kept' (words_refused fault) no_memory calm one two =
+one_cause_lem one_fault never_both one_project one_serial words files before now kept kept' (words_refused fault) no_memory calm one two =
     inr (inl refl)
-one_cause_lem one_fault never_both one_project one_trees words files before now kept kept' (words_refused fault) (ran project' world') calm one two =
+one_cause_lem one_fault never_both one_project one_serial words files before now kept kept' (words_refused fault) (ran size' origin' n') calm one two =
     absurd (refused-not_asked words two.read.asked (inl (fault, one.1)) two.read.asks)
-one_cause_lem one_fault never_both one_project one_trees words files before now kept kept' (workers_refused index) (words_refused fault') calm one two =
+one_cause_lem one_fault never_both one_project one_serial words files before now kept kept' (workers_refused index) (words_refused fault') calm one two =
     absurd (order_clash words one.1.asked fault' one.1.words_are two.1)
-one_cause_lem one_fault never_both one_project one_trees words files before now kept kept' (workers_refused index) (workers_refused index') calm one two =
+one_cause_lem one_fault never_both one_project one_serial words files before now kept kept' (workers_refused index) (workers_refused index') calm one two =
     inl (ap workers_refused (one_index words index index' one.1 two.1))
-one_cause_lem one_fault never_both one_project one_trees words files before now kept kept' (workers_refused index) order_not_built calm one two =
+one_cause_lem one_fault never_both one_project one_serial words files before now kept kept' (workers_refused index) order_not_built calm one two =
     absurd (workers_clash words index two.1.asked one.1 two.1.words_are two.1.alone)
-one_cause_lem one_fault never_both one_project one_trees words files before now kept kept' (workers_refused index) (not_fetched f' number' name') calm one two =
+one_cause_lem one_fault never_both one_project one_serial words files before now kept kept' (workers_refused index) (not_fetched f' number' name') calm one two =
     absurd (refused-not_asked words two.1.asked (inr (inl (index, one.1))) two.1.asks)
-one_cause_lem one_fault never_both one_project one_trees words files before now kept kept' (workers_refused index) (source_refused name' source' fault' offset') calm one two =
+one_cause_lem one_fault never_both one_project one_serial words files before now kept kept' (workers_refused index) (source_refused name' source' fault' offset') calm one two =
     absurd (refused-not_asked words two.1.read.asked (inr (inl (index, one.1))) two.1.read.asks)
-one_cause_lem one_fault never_both one_project one_trees words files before now kept kept' (workers_refused index) (form_refused name') calm one two =
+one_cause_lem one_fault never_both one_project one_serial words files before now kept kept' (workers_refused index) (script_refused fault') calm one two =
     absurd (refused-not_asked words two.1.read.asked (inr (inl (index, one.1))) two.1.read.asks)
-one_cause_lem one_fault never_both one_project one_trees words files before now kept kept' (workers_refused index) checked calm one two =
+one_cause_lem one_fault never_both one_project one_serial words files before now kept kept' (workers_refused index) checked calm one two =
     absurd (refused-not_asked words two.1.read.asked (inr (inl (index, one.1))) two.1.read.asks)
-one_cause_lem one_fault never_both one_project one_trees words files before now kept kept' (workers_refused index) (listed project') calm one two =
+one_cause_lem one_fault never_both one_project one_serial words files before now kept kept' (workers_refused index) (listed project') calm one two =
     absurd (refused-not_asked words two.1.read.asked (inr (inl (index, one.1))) two.1.read.asks)
-one_cause_lem one_fault never_both one_project one_trees words files before now kept kept' (workers_refused index) no_memory calm one two =
+one_cause_lem one_fault never_both one_project one_serial words files before now kept kept' (workers_refused index) no_memory calm one two =
     inr (inl refl)
-one_cause_lem one_fault never_both one_project one_trees words files before now kept kept' (workers_refused index) (ran project' world') calm one two =
+one_cause_lem one_fault never_both one_project one_serial words files before now kept kept' (workers_refused index) (ran size' origin' n') calm one two =
     absurd (refused-not_asked words two.read.asked (inr (inl (index, one.1))) two.read.asks)
-one_cause_lem one_fault never_both one_project one_trees words files before now kept kept' order_not_built (words_refused fault') calm one two =
+one_cause_lem one_fault never_both one_project one_serial words files before now kept kept' order_not_built (words_refused fault') calm one two =
     absurd (order_clash words one.1.asked fault' one.1.words_are two.1)
-one_cause_lem one_fault never_both one_project one_trees words files before now kept kept' order_not_built (workers_refused index') calm one two =
+one_cause_lem one_fault never_both one_project one_serial words files before now kept kept' order_not_built (workers_refused index') calm one two =
     absurd (workers_clash words index' one.1.asked two.1 one.1.words_are one.1.alone)
-one_cause_lem one_fault never_both one_project one_trees words files before now kept kept' order_not_built order_not_built calm one two =
+one_cause_lem one_fault never_both one_project one_serial words files before now kept kept' order_not_built order_not_built calm one two =
     inl refl
-one_cause_lem one_fault never_both one_project one_trees words files before now kept kept' order_not_built (not_fetched f' number' name') calm one two =
+one_cause_lem one_fault never_both one_project one_serial words files before now kept kept' order_not_built (not_fetched f' number' name') calm one two =
     absurd (refused-not_asked words two.1.asked (inr (inr one.1)) two.1.asks)
-one_cause_lem one_fault never_both one_project one_trees words files before now kept kept' order_not_built (source_refused name' source' fault' offset') calm one two =
+one_cause_lem one_fault never_both one_project one_serial words files before now kept kept' order_not_built (source_refused name' source' fault' offset') calm one two =
     absurd (refused-not_asked words two.1.read.asked (inr (inr one.1)) two.1.read.asks)
-one_cause_lem one_fault never_both one_project one_trees words files before now kept kept' order_not_built (form_refused name') calm one two =
+one_cause_lem one_fault never_both one_project one_serial words files before now kept kept' order_not_built (script_refused fault') calm one two =
     absurd (refused-not_asked words two.1.read.asked (inr (inr one.1)) two.1.read.asks)
-one_cause_lem one_fault never_both one_project one_trees words files before now kept kept' order_not_built checked calm one two =
+one_cause_lem one_fault never_both one_project one_serial words files before now kept kept' order_not_built checked calm one two =
     absurd (refused-not_asked words two.1.read.asked (inr (inr one.1)) two.1.read.asks)
-one_cause_lem one_fault never_both one_project one_trees words files before now kept kept' order_not_built (listed project') calm one two =
+one_cause_lem one_fault never_both one_project one_serial words files before now kept kept' order_not_built (listed project') calm one two =
     absurd (refused-not_asked words two.1.read.asked (inr (inr one.1)) two.1.read.asks)
-one_cause_lem one_fault never_both one_project one_trees words files before now kept kept' order_not_built no_memory calm one two =
+one_cause_lem one_fault never_both one_project one_serial words files before now kept kept' order_not_built no_memory calm one two =
     inr (inl refl)
-one_cause_lem one_fault never_both one_project one_trees words files before now kept kept' order_not_built (ran project' world') calm one two =
+one_cause_lem one_fault never_both one_project one_serial words files before now kept kept' order_not_built (ran size' origin' n') calm one two =
     absurd (refused-not_asked words two.read.asked (inr (inr one.1)) two.read.asks)
-one_cause_lem one_fault never_both one_project one_trees words files before now kept kept' (not_fetched f number name) (words_refused fault') calm one two =
+one_cause_lem one_fault never_both one_project one_serial words files before now kept kept' (not_fetched f number name) (words_refused fault') calm one two =
     absurd (refused-not_asked words one.1.asked (inl (fault', two.1)) one.1.asks)
-one_cause_lem one_fault never_both one_project one_trees words files before now kept kept' (not_fetched f number name) (workers_refused index') calm one two =
+one_cause_lem one_fault never_both one_project one_serial words files before now kept kept' (not_fetched f number name) (workers_refused index') calm one two =
     absurd (refused-not_asked words one.1.asked (inr (inl (index', two.1))) one.1.asks)
-one_cause_lem one_fault never_both one_project one_trees words files before now kept kept' (not_fetched f number name) order_not_built calm one two =
+one_cause_lem one_fault never_both one_project one_serial words files before now kept kept' (not_fetched f number name) order_not_built calm one two =
     absurd (refused-not_asked words one.1.asked (inr (inr two.1)) one.1.asks)
-one_cause_lem one_fault never_both one_project one_trees words files before now kept kept' (not_fetched f number name) (not_fetched f' number' name') calm one two =
+one_cause_lem one_fault never_both one_project one_serial words files before now kept kept' (not_fetched f number name) (not_fetched f' number' name') calm one two =
     inl (same_file words files before now f f' number number' name name' calm one.1 one.2 two.1 two.2)
-one_cause_lem one_fault never_both one_project one_trees words files before now kept kept' (not_fetched f number name) (source_refused name' source' fault' offset') calm one two =
-    absurd (not_all words files before now number f name two.1.contents calm one.1 one.2 two.1.read)
-one_cause_lem one_fault never_both one_project one_trees words files before now kept kept' (not_fetched f number name) (form_refused name') calm one two =
-    absurd (not_all words files before now number f name two.1.contents calm one.1 one.2 two.1.read)
-one_cause_lem one_fault never_both one_project one_trees words files before now kept kept' (not_fetched f number name) checked calm one two =
-    absurd (not_all words files before now number f name two.1.contents calm one.1 one.2 two.1.read)
-one_cause_lem one_fault never_both one_project one_trees words files before now kept kept' (not_fetched f number name) (listed project') calm one two =
-    absurd (not_all words files before now number f name two.1.contents calm one.1 one.2 two.1.read)
-one_cause_lem one_fault never_both one_project one_trees words files before now kept kept' (not_fetched f number name) no_memory calm one two =
+one_cause_lem one_fault never_both one_project one_serial words files before now kept kept' (not_fetched f number name) (source_refused name' source' fault' offset') calm one two =
+    absurd (not_all words files before now number f name two.1.texts calm one.1 one.2 two.1.read)
+one_cause_lem one_fault never_both one_project one_serial words files before now kept kept' (not_fetched f number name) (script_refused fault') calm one two =
+    absurd (not_all words files before now number f name two.1.texts calm one.1 one.2 two.1.read)
+one_cause_lem one_fault never_both one_project one_serial words files before now kept kept' (not_fetched f number name) checked calm one two =
+    absurd (not_all words files before now number f name two.1.texts calm one.1 one.2 two.1.read)
+one_cause_lem one_fault never_both one_project one_serial words files before now kept kept' (not_fetched f number name) (listed project') calm one two =
+    absurd (not_all words files before now number f name two.1.texts calm one.1 one.2 two.1.read)
+one_cause_lem one_fault never_both one_project one_serial words files before now kept kept' (not_fetched f number name) no_memory calm one two =
     inr (inl refl)
-one_cause_lem one_fault never_both one_project one_trees words files before now kept kept' (not_fetched f number name) (ran project' world') calm one two =
-    absurd (not_all words files before now number f name two.contents calm one.1 one.2 two.read)
-one_cause_lem one_fault never_both one_project one_trees words files before now kept kept' (source_refused name source fault offset) (words_refused fault') calm one two =
+one_cause_lem one_fault never_both one_project one_serial words files before now kept kept' (not_fetched f number name) (ran size' origin' n') calm one two =
+    absurd (not_all words files before now number f name two.texts calm one.1 one.2 two.read)
+one_cause_lem one_fault never_both one_project one_serial words files before now kept kept' (source_refused name source fault offset) (words_refused fault') calm one two =
     absurd (refused-not_asked words one.1.read.asked (inl (fault', two.1)) one.1.read.asks)
-one_cause_lem one_fault never_both one_project one_trees words files before now kept kept' (source_refused name source fault offset) (workers_refused index') calm one two =
+one_cause_lem one_fault never_both one_project one_serial words files before now kept kept' (source_refused name source fault offset) (workers_refused index') calm one two =
     absurd (refused-not_asked words one.1.read.asked (inr (inl (index', two.1))) one.1.read.asks)
-one_cause_lem one_fault never_both one_project one_trees words files before now kept kept' (source_refused name source fault offset) order_not_built calm one two =
+one_cause_lem one_fault never_both one_project one_serial words files before now kept kept' (source_refused name source fault offset) order_not_built calm one two =
     absurd (refused-not_asked words one.1.read.asked (inr (inr two.1)) one.1.read.asks)
-one_cause_lem one_fault never_both one_project one_trees words files before now kept kept' (source_refused name source fault offset) (not_fetched f' number' name') calm one two =
-    absurd (not_all words files before now number' f' name' one.1.contents calm two.1 two.2 one.1.read)
-one_cause_lem one_fault never_both one_project one_trees words files before now kept kept' (source_refused name source fault offset) (source_refused name' source' fault' offset') calm one two =
+one_cause_lem one_fault never_both one_project one_serial words files before now kept kept' (source_refused name source fault offset) (not_fetched f' number' name') calm one two =
+    absurd (not_all words files before now number' f' name' one.1.texts calm two.1 two.2 one.1.read)
+one_cause_lem one_fault never_both one_project one_serial words files before now kept kept' (source_refused name source fault offset) (source_refused name' source' fault' offset') calm one two =
     inl (same_refusal one_fault words files name name' source source' fault fault' offset offset' one.1 two.1)
-one_cause_lem one_fault never_both one_project one_trees words files before now kept kept' (source_refused name source fault offset) (form_refused name') calm one two =
-    absurd (refused-not_compiled never_both words files name source fault offset two.1.contents one.1 two.1.read two.1.refused.compiled)
-one_cause_lem one_fault never_both one_project one_trees words files before now kept kept' (source_refused name source fault offset) checked calm one two =
-    absurd (refused-not_compiled never_both words files name source fault offset two.1.contents one.1 two.1.read two.1.compiled)
-one_cause_lem one_fault never_both one_project one_trees words files before now kept kept' (source_refused name source fault offset) (listed project') calm one two =
-    absurd (refused-not_compiled never_both words files name source fault offset two.1.contents one.1 two.1.read (project', two.1.compiled))
-one_cause_lem one_fault never_both one_project one_trees words files before now kept kept' (source_refused name source fault offset) no_memory calm one two =
+one_cause_lem one_fault never_both one_project one_serial words files before now kept kept' (source_refused name source fault offset) (script_refused fault') calm one two =
+    absurd (refused-not_compiled never_both words files name source fault offset two.1.texts one.1 two.1.read two.1.compiled)
+one_cause_lem one_fault never_both one_project one_serial words files before now kept kept' (source_refused name source fault offset) checked calm one two =
+    absurd (refused-not_compiled never_both words files name source fault offset two.1.texts one.1 two.1.read two.1.compiled)
+one_cause_lem one_fault never_both one_project one_serial words files before now kept kept' (source_refused name source fault offset) (listed project') calm one two =
+    absurd (refused-not_compiled never_both words files name source fault offset two.1.texts one.1 two.1.read (project', two.1.compiled))
+one_cause_lem one_fault never_both one_project one_serial words files before now kept kept' (source_refused name source fault offset) no_memory calm one two =
     inr (inl refl)
-one_cause_lem one_fault never_both one_project one_trees words files before now kept kept' (source_refused name source fault offset) (ran project' world') calm one two =
-    absurd (refused-not_compiled never_both words files name source fault offset two.contents one.1 two.read two.compiled.compiled)
-one_cause_lem one_fault never_both one_project one_trees words files before now kept kept' (form_refused name) (words_refused fault') calm one two =
+one_cause_lem one_fault never_both one_project one_serial words files before now kept kept' (source_refused name source fault offset) (ran size' origin' n') calm one two =
+    absurd (refused-not_compiled never_both words files name source fault offset two.texts one.1 two.read (origin'.project, two.compiled))
+one_cause_lem one_fault never_both one_project one_serial words files before now kept kept' (script_refused fault) (words_refused fault') calm one two =
     absurd (refused-not_asked words one.1.read.asked (inl (fault', two.1)) one.1.read.asks)
-one_cause_lem one_fault never_both one_project one_trees words files before now kept kept' (form_refused name) (workers_refused index') calm one two =
+one_cause_lem one_fault never_both one_project one_serial words files before now kept kept' (script_refused fault) (workers_refused index') calm one two =
     absurd (refused-not_asked words one.1.read.asked (inr (inl (index', two.1))) one.1.read.asks)
-one_cause_lem one_fault never_both one_project one_trees words files before now kept kept' (form_refused name) order_not_built calm one two =
+one_cause_lem one_fault never_both one_project one_serial words files before now kept kept' (script_refused fault) order_not_built calm one two =
     absurd (refused-not_asked words one.1.read.asked (inr (inr two.1)) one.1.read.asks)
-one_cause_lem one_fault never_both one_project one_trees words files before now kept kept' (form_refused name) (not_fetched f' number' name') calm one two =
-    absurd (not_all words files before now number' f' name' one.1.contents calm two.1 two.2 one.1.read)
-one_cause_lem one_fault never_both one_project one_trees words files before now kept kept' (form_refused name) (source_refused name' source' fault' offset') calm one two =
-    absurd (refused-not_compiled never_both words files name' source' fault' offset' one.1.contents two.1 one.1.read one.1.refused.compiled)
-one_cause_lem one_fault never_both one_project one_trees words files before now kept kept' (form_refused name) (form_refused name') calm one two =
-    inl (ap form_refused (same_first words files name name' one.1 two.1))
-one_cause_lem one_fault never_both one_project one_trees words files before now kept kept' (form_refused name) checked calm one two =
-    absurd (command_clash words (Some files) one.1.contents two.1.contents one.1.read two.1.read commands.Run commands.Check one.1.runs two.1.checks run-not_check)
-one_cause_lem one_fault never_both one_project one_trees words files before now kept kept' (form_refused name) (listed project') calm one two =
-    absurd (command_clash words (Some files) one.1.contents two.1.contents one.1.read two.1.read commands.Run commands.List one.1.runs two.1.lists run-not_list)
-one_cause_lem one_fault never_both one_project one_trees words files before now kept kept' (form_refused name) no_memory calm one two =
+one_cause_lem one_fault never_both one_project one_serial words files before now kept kept' (script_refused fault) (not_fetched f' number' name') calm one two =
+    absurd (not_all words files before now number' f' name' one.1.texts calm two.1 two.2 one.1.read)
+one_cause_lem one_fault never_both one_project one_serial words files before now kept kept' (script_refused fault) (source_refused name' source' fault' offset') calm one two =
+    absurd (refused-not_compiled never_both words files name' source' fault' offset' one.1.texts two.1 one.1.read one.1.compiled)
+one_cause_lem one_fault never_both one_project one_serial words files before now kept kept' (script_refused fault) (script_refused fault') calm one two =
+    inl (ap script_refused (same_script words files fault fault' one.1 two.1))
+one_cause_lem one_fault never_both one_project one_serial words files before now kept kept' (script_refused fault) checked calm one two =
+    absurd (runs_clash words (Some files) one.1.texts two.1.texts one.1.read two.1.read one.1.size commands.Check one.1.runs two.1.checks (λ none. none))
+one_cause_lem one_fault never_both one_project one_serial words files before now kept kept' (script_refused fault) (listed project') calm one two =
+    absurd (runs_clash words (Some files) one.1.texts two.1.texts one.1.read two.1.read one.1.size commands.List one.1.runs two.1.lists (λ none. none))
+one_cause_lem one_fault never_both one_project one_serial words files before now kept kept' (script_refused fault) no_memory calm one two =
     inr (inl refl)
-one_cause_lem one_fault never_both one_project one_trees words files before now kept kept' (form_refused name) (ran project' world') calm one two =
-    absurd (form_clash one_trees two.contents one.1.contents project' (all_contents words files two.contents one.1.contents two.read one.1.read) two.compiled one.1.refused)
-one_cause_lem one_fault never_both one_project one_trees words files before now kept kept' checked (words_refused fault') calm one two =
+one_cause_lem one_fault never_both one_project one_serial words files before now kept kept' (script_refused fault) (ran size' origin' n') calm one two =
+    absurd (script_clash words files fault two.texts origin'.events one.1 two.read two.scripted)
+one_cause_lem one_fault never_both one_project one_serial words files before now kept kept' checked (words_refused fault') calm one two =
     absurd (refused-not_asked words one.1.read.asked (inl (fault', two.1)) one.1.read.asks)
-one_cause_lem one_fault never_both one_project one_trees words files before now kept kept' checked (workers_refused index') calm one two =
+one_cause_lem one_fault never_both one_project one_serial words files before now kept kept' checked (workers_refused index') calm one two =
     absurd (refused-not_asked words one.1.read.asked (inr (inl (index', two.1))) one.1.read.asks)
-one_cause_lem one_fault never_both one_project one_trees words files before now kept kept' checked order_not_built calm one two =
+one_cause_lem one_fault never_both one_project one_serial words files before now kept kept' checked order_not_built calm one two =
     absurd (refused-not_asked words one.1.read.asked (inr (inr two.1)) one.1.read.asks)
-one_cause_lem one_fault never_both one_project one_trees words files before now kept kept' checked (not_fetched f' number' name') calm one two =
-    absurd (not_all words files before now number' f' name' one.1.contents calm two.1 two.2 one.1.read)
-one_cause_lem one_fault never_both one_project one_trees words files before now kept kept' checked (source_refused name' source' fault' offset') calm one two =
-    absurd (refused-not_compiled never_both words files name' source' fault' offset' one.1.contents two.1 one.1.read one.1.compiled)
-one_cause_lem one_fault never_both one_project one_trees words files before now kept kept' checked (form_refused name') calm one two =
-    absurd (command_clash words (Some files) two.1.contents one.1.contents two.1.read one.1.read commands.Run commands.Check two.1.runs one.1.checks run-not_check)
-one_cause_lem one_fault never_both one_project one_trees words files before now kept kept' checked checked calm one two =
+one_cause_lem one_fault never_both one_project one_serial words files before now kept kept' checked (not_fetched f' number' name') calm one two =
+    absurd (not_all words files before now number' f' name' one.1.texts calm two.1 two.2 one.1.read)
+one_cause_lem one_fault never_both one_project one_serial words files before now kept kept' checked (source_refused name' source' fault' offset') calm one two =
+    absurd (refused-not_compiled never_both words files name' source' fault' offset' one.1.texts two.1 one.1.read one.1.compiled)
+one_cause_lem one_fault never_both one_project one_serial words files before now kept kept' checked (script_refused fault') calm one two =
+    absurd (runs_clash words (Some files) two.1.texts one.1.texts two.1.read one.1.read two.1.size commands.Check two.1.runs one.1.checks (λ none. none))
+one_cause_lem one_fault never_both one_project one_serial words files before now kept kept' checked checked calm one two =
     inl refl
-one_cause_lem one_fault never_both one_project one_trees words files before now kept kept' checked (listed project') calm one two =
-    absurd (command_clash words (Some files) one.1.contents two.1.contents one.1.read two.1.read commands.Check commands.List one.1.checks two.1.lists check-not_list)
-one_cause_lem one_fault never_both one_project one_trees words files before now kept kept' checked no_memory calm one two =
+one_cause_lem one_fault never_both one_project one_serial words files before now kept kept' checked (listed project') calm one two =
+    absurd (command_clash words (Some files) one.1.texts two.1.texts one.1.read two.1.read commands.Check commands.List one.1.checks two.1.lists check-not_list)
+one_cause_lem one_fault never_both one_project one_serial words files before now kept kept' checked no_memory calm one two =
     inr (inl refl)
-one_cause_lem one_fault never_both one_project one_trees words files before now kept kept' checked (ran project' world') calm one two =
-    absurd (command_clash words (Some files) two.contents one.1.contents two.read one.1.read commands.Run commands.Check two.runs one.1.checks run-not_check)
-one_cause_lem one_fault never_both one_project one_trees words files before now kept kept' (listed project) (words_refused fault') calm one two =
+one_cause_lem one_fault never_both one_project one_serial words files before now kept kept' checked (ran size' origin' n') calm one two =
+    absurd (runs_clash words (Some files) two.texts one.1.texts two.read one.1.read size' commands.Check two.runs one.1.checks (λ none. none))
+one_cause_lem one_fault never_both one_project one_serial words files before now kept kept' (listed project) (words_refused fault') calm one two =
     absurd (refused-not_asked words one.1.read.asked (inl (fault', two.1)) one.1.read.asks)
-one_cause_lem one_fault never_both one_project one_trees words files before now kept kept' (listed project) (workers_refused index') calm one two =
+one_cause_lem one_fault never_both one_project one_serial words files before now kept kept' (listed project) (workers_refused index') calm one two =
     absurd (refused-not_asked words one.1.read.asked (inr (inl (index', two.1))) one.1.read.asks)
-one_cause_lem one_fault never_both one_project one_trees words files before now kept kept' (listed project) order_not_built calm one two =
+one_cause_lem one_fault never_both one_project one_serial words files before now kept kept' (listed project) order_not_built calm one two =
     absurd (refused-not_asked words one.1.read.asked (inr (inr two.1)) one.1.read.asks)
-one_cause_lem one_fault never_both one_project one_trees words files before now kept kept' (listed project) (not_fetched f' number' name') calm one two =
-    absurd (not_all words files before now number' f' name' one.1.contents calm two.1 two.2 one.1.read)
-one_cause_lem one_fault never_both one_project one_trees words files before now kept kept' (listed project) (source_refused name' source' fault' offset') calm one two =
-    absurd (refused-not_compiled never_both words files name' source' fault' offset' one.1.contents two.1 one.1.read (project, one.1.compiled))
-one_cause_lem one_fault never_both one_project one_trees words files before now kept kept' (listed project) (form_refused name') calm one two =
-    absurd (command_clash words (Some files) two.1.contents one.1.contents two.1.read one.1.read commands.Run commands.List two.1.runs one.1.lists run-not_list)
-one_cause_lem one_fault never_both one_project one_trees words files before now kept kept' (listed project) checked calm one two =
-    absurd (command_clash words (Some files) two.1.contents one.1.contents two.1.read one.1.read commands.Check commands.List two.1.checks one.1.lists check-not_list)
-one_cause_lem one_fault never_both one_project one_trees words files before now kept kept' (listed project) (listed project') calm one two =
+one_cause_lem one_fault never_both one_project one_serial words files before now kept kept' (listed project) (not_fetched f' number' name') calm one two =
+    absurd (not_all words files before now number' f' name' one.1.texts calm two.1 two.2 one.1.read)
+one_cause_lem one_fault never_both one_project one_serial words files before now kept kept' (listed project) (source_refused name' source' fault' offset') calm one two =
+    absurd (refused-not_compiled never_both words files name' source' fault' offset' one.1.texts two.1 one.1.read (project, one.1.compiled))
+one_cause_lem one_fault never_both one_project one_serial words files before now kept kept' (listed project) (script_refused fault') calm one two =
+    absurd (runs_clash words (Some files) two.1.texts one.1.texts two.1.read one.1.read two.1.size commands.List two.1.runs one.1.lists (λ none. none))
+one_cause_lem one_fault never_both one_project one_serial words files before now kept kept' (listed project) checked calm one two =
+    absurd (command_clash words (Some files) two.1.texts one.1.texts two.1.read one.1.read commands.Check commands.List two.1.checks one.1.lists check-not_list)
+one_cause_lem one_fault never_both one_project one_serial words files before now kept kept' (listed project) (listed project') calm one two =
     inl (ap listed (same_listed one_project words files project project' one.1 two.1))
-one_cause_lem one_fault never_both one_project one_trees words files before now kept kept' (listed project) no_memory calm one two =
+one_cause_lem one_fault never_both one_project one_serial words files before now kept kept' (listed project) no_memory calm one two =
     inr (inl refl)
-one_cause_lem one_fault never_both one_project one_trees words files before now kept kept' (listed project) (ran project' world') calm one two =
-    absurd (command_clash words (Some files) two.contents one.1.contents two.read one.1.read commands.Run commands.List two.runs one.1.lists run-not_list)
-one_cause_lem one_fault never_both one_project one_trees words files before now kept kept' no_memory other calm one two = inr (inl refl)
-one_cause_lem one_fault never_both one_project one_trees words files before now kept kept' (ran project world) (words_refused fault') calm one two =
+one_cause_lem one_fault never_both one_project one_serial words files before now kept kept' (listed project) (ran size' origin' n') calm one two =
+    absurd (runs_clash words (Some files) two.texts one.1.texts two.read one.1.read size' commands.List two.runs one.1.lists (λ none. none))
+one_cause_lem one_fault never_both one_project one_serial words files before now kept kept' no_memory other calm one two = inr (inl refl)
+one_cause_lem one_fault never_both one_project one_serial words files before now kept kept' (ran size origin n) (words_refused fault') calm one two =
     absurd (refused-not_asked words one.read.asked (inl (fault', two.1)) one.read.asks)
-one_cause_lem one_fault never_both one_project one_trees words files before now kept kept' (ran project world) (workers_refused index') calm one two =
+one_cause_lem one_fault never_both one_project one_serial words files before now kept kept' (ran size origin n) (workers_refused index') calm one two =
     absurd (refused-not_asked words one.read.asked (inr (inl (index', two.1))) one.read.asks)
-one_cause_lem one_fault never_both one_project one_trees words files before now kept kept' (ran project world) order_not_built calm one two =
+one_cause_lem one_fault never_both one_project one_serial words files before now kept kept' (ran size origin n) order_not_built calm one two =
     absurd (refused-not_asked words one.read.asked (inr (inr two.1)) one.read.asks)
-one_cause_lem one_fault never_both one_project one_trees words files before now kept kept' (ran project world) (not_fetched f' number' name') calm one two =
-    absurd (not_all words files before now number' f' name' one.contents calm two.1 two.2 one.read)
-one_cause_lem one_fault never_both one_project one_trees words files before now kept kept' (ran project world) (source_refused name' source' fault' offset') calm one two =
-    absurd (refused-not_compiled never_both words files name' source' fault' offset' one.contents two.1 one.read one.compiled.compiled)
-one_cause_lem one_fault never_both one_project one_trees words files before now kept kept' (ran project world) (form_refused name') calm one two =
-    absurd (form_clash one_trees one.contents two.1.contents project (all_contents words files one.contents two.1.contents one.read two.1.read) one.compiled two.1.refused)
-one_cause_lem one_fault never_both one_project one_trees words files before now kept kept' (ran project world) checked calm one two =
-    absurd (command_clash words (Some files) one.contents two.1.contents one.read two.1.read commands.Run commands.Check one.runs two.1.checks run-not_check)
-one_cause_lem one_fault never_both one_project one_trees words files before now kept kept' (ran project world) (listed project') calm one two =
-    absurd (command_clash words (Some files) one.contents two.1.contents one.read two.1.read commands.Run commands.List one.runs two.1.lists run-not_list)
-one_cause_lem one_fault never_both one_project one_trees words files before now kept kept' (ran project world) no_memory calm one two =
+one_cause_lem one_fault never_both one_project one_serial words files before now kept kept' (ran size origin n) (not_fetched f' number' name') calm one two =
+    absurd (not_all words files before now number' f' name' one.texts calm two.1 two.2 one.read)
+one_cause_lem one_fault never_both one_project one_serial words files before now kept kept' (ran size origin n) (source_refused name' source' fault' offset') calm one two =
+    absurd (refused-not_compiled never_both words files name' source' fault' offset' one.texts two.1 one.read (origin.project, one.compiled))
+one_cause_lem one_fault never_both one_project one_serial words files before now kept kept' (ran size origin n) (script_refused fault') calm one two =
+    absurd (script_clash words files fault' one.texts origin.events two.1 one.read one.scripted)
+one_cause_lem one_fault never_both one_project one_serial words files before now kept kept' (ran size origin n) checked calm one two =
+    absurd (runs_clash words (Some files) one.texts two.1.texts one.read two.1.read size commands.Check one.runs two.1.checks (λ none. none))
+one_cause_lem one_fault never_both one_project one_serial words files before now kept kept' (ran size origin n) (listed project') calm one two =
+    absurd (runs_clash words (Some files) one.texts two.1.texts one.read two.1.read size commands.List one.runs two.1.lists (λ none. none))
+one_cause_lem one_fault never_both one_project one_serial words files before now kept kept' (ran size origin n) no_memory calm one two =
     inr (inl refl)
-one_cause_lem one_fault never_both one_project one_trees words files before now kept kept' (ran project world) (ran project' world') calm one two =
-    inr (inr (project, refl, ap Some (sym (same_project one_trees words files kept kept' project project' world world' one two))))
+one_cause_lem one_fault never_both one_project one_serial words files before now kept kept' (ran size origin n) (ran size' origin' n') calm one two =
+    inr (inr (same_run one_project one_serial words files kept kept' size size' origin origin' n n' one two))

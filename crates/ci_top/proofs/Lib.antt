@@ -1,7 +1,6 @@
-pub mod Running
-pub mod Writing
 pub mod Fetching
-pub mod Deciding
+pub mod Made
 pub mod Causes
+pub mod Deciding
 pub mod Plain
 pub mod Doing

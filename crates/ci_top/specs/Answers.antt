@@ -2,41 +2,44 @@
 --
 -- Each answer has a cause that holds, and its text and status are those of its cause, unless a put failed. An order that is built
 -- later adds its causes, and their rows in each table.
-use Rattle.std.specs.Prelude.{◌≡◌, ℕ, List, [], ◌++◌, codes, decimal, Option, Some, None, Err, ◌⊎◌, slice_get}
+use Rattle.std.specs.Prelude.{◌≡◌, ℕ, suc, List, [], ◌++◌, length, codes, decimal, Option, Some, None, Err, ◌⊎◌, slice_get}
 use Rattle.std.specs.Io.KnownBytes.{Appends}
+use Rattle.ci_base.specs.declared.bounds.TheConstants.{MOST_SCRIPT_LINES}
 use Rattle.ci_base.specs.declared.entry.Entry.{Entry}
 use Rattle.ci_base.specs.declared.limits.Ending.{Ending}
 use Rattle.ci_base.specs.declared.limits.Ending.TheVariants as endings
 use Rattle.ci_base.specs.declared.list.Loose.{Loose}
 use Rattle.ci_base.specs.declared.position.Position.{Position}
 use Rattle.ci_base.specs.Places.{place}
+use Rattle.ci_history.specs.declared.end.EndState.{EndState}
+use Rattle.ci_history.specs.Report.{closing_line, report_text}
 use Rattle.ci_listing.specs.Listing.{listing}
 use Rattle.ci_outside.specs.Causes.{Rose}
 use Rattle.ci_outside.specs.Shelf.{Files, LacksFile, HasLongFile}
 use Rattle.ci_outside.specs.Sink.{AppendsFront}
-use Rattle.ci_top.specs.declared.decision.FileFault.{FileFault}
-use Rattle.ci_top.specs.declared.decision.FileFault.TheVariants as faults
-use Rattle.ci_top.specs.declared.outcome.Outcome.{Outcome}
+use Rattle.ci_runtime.specs.EndStates.{end_state}
+use Rattle.ci_runtime.specs.Runs.{IsSerialRun}
+use Rattle.ci_script.specs.declared.fault.ScriptFault.{ScriptFault}
+use Rattle.ci_script.specs.declared.fault.ScriptFault.TheVariants as script_faults
+use Rattle.ci_script.specs.Scripts.{events, script_fault}
 use Rattle.ci_source.specs.declared.fault.Fault.{Fault}
-use Rattle.ci_source.specs.declared.fault.Fault.TheVariants as source_faults
-use Rattle.ci_source.specs.Compiling.{parse_to, compiles, HasFirstFault}
+use Rattle.ci_source.specs.Compiling.{compiles, HasFirstFault}
 use Rattle.ci_source.specs.Faults.{fault_text as source_fault_text}
-use Rattle.ci_source.specs.FirstForm.{files_form}
-use Rattle.ci_tree.specs.declared.trace_project.TraceProject.{TraceProject}
 use Rattle.ci_tree.specs.Bound.{Project}
-use Rattle.ci_tree.specs.Tree.{Item}
 use Rattle.ci_translation.specs.Translation.{translation}
 use Rattle.ci_words.specs.declared.command.Command.TheVariants as commands
 use Rattle.ci_words.specs.declared.fault.WordFault.{WordFault}
 use Rattle.ci_words.specs.declared.order.Order.{Order}
 use Rattle.ci_words.specs.Fault.{text_of as word_fault_text}
 use Rattle.ci_words.specs.Order.{Orders}
-use Rattle.ci_top.specs.Asked.{names_of, wanted_of, AskFor, AskForWorkers, AskForUnbuilt}
-use Rattle.ci_top.specs.Defaults.{default_script, default_budget}
-use Rattle.ci_top.specs.Fetching.{Wanted, Fetched, IsNext}
-use Rattle.ci_top.specs.Report.{report}
-use Rattle.ci_top.specs.Work.{FitsLoose, Ends}
-use Rattle.ci_top.specs.World.{World, Run}
+use Rattle.ci_workload.specs.Workload.{workload_text}
+use Rattle.ci_world.specs.World.{Origin}
+use Rattle.ci_top.specs.declared.decision.FileFault.{FileFault}
+use Rattle.ci_top.specs.declared.decision.FileFault.TheVariants as faults
+use Rattle.ci_top.specs.declared.outcome.Outcome.{Outcome}
+use Rattle.ci_top.specs.Asked.{AskFor, AskForWorkers, AskForUnbuilt, AsksRun}
+use Rattle.ci_top.specs.Fetching.{Wanted}
+use Rattle.ci_top.specs.Reading.{Texts, ComesTo, HasAll, names_told}
 
 -- what an outcome keeps of a run
 pub record Kept : Type 0 where
@@ -51,77 +54,52 @@ kept_of outcome = record { history = outcome.history.entries; loose = outcome.lo
 abbrev pub nothing_kept : Kept
 nothing_kept = record { history = []; loose = []; ending = endings.NotRun }
 
--- the words ask for an order, and of the files that it wants, this one of this number is the next to be fetched
-pub record ComesTo (words : List (List ℕ)) (files : Option Files) (number : ℕ) (file : Wanted) : Type 0 where
-  pub asked : Order
-  pub asks : AskFor words asked
-  pub next : IsNext files (wanted_of words asked) number file
-
--- the words ask for an order, and all its files were fetched
-pub record HasAll (words : List (List ℕ)) (files : Option Files) (contents : List (List ℕ)) : Type 0 where
-  pub asked : Order
-  pub asks : AskFor words asked
-  pub fetched : Fetched files (wanted_of words asked) contents
-
 -- the sources compile
 abbrev pub Compiles : List (List ℕ) → Type 0
 Compiles sources = (project : Project) × compiles sources project
 
--- the sources compile, and their trees are of the form that can be run: this is its project
-pub record RunsAs (sources : List (List ℕ)) (project : TraceProject) : Type 0 where
-  pub compiled : Compiles sources
-  pub trees : List (List Item)
-  pub parsed : parse_to sources trees
-  pub form : files_form trees ≡ Some project
-
--- the sources compile, and their trees are of another form
-pub record HasNoForm (sources : List (List ℕ)) : Type 0 where
-  pub compiled : Compiles sources
-  pub trees : List (List Item)
-  pub parsed : parse_to sources trees
-  pub no_form : files_form trees ≡ None
-
--- The history is a run of the preemptive machine on the project of the sources read; this is the world after it, the loose
--- ticks are made there, and the run ends as it says.
-pub record IsRun (words : List (List ℕ)) (files : Option Files) (kept : Kept) (project : TraceProject) (world : World) : Type 0 where
-  pub contents : List (List ℕ)
-  pub read : HasAll words files contents
-  pub runs : read.asked.command ≡ commands.Run
-  pub compiled : RunsAs contents project
-  pub run : Run project default_script kept.history world
-  pub loose : FitsLoose project world kept.loose
-  pub ends : Ends world kept.history kept.loose default_budget kept.ending
-
--- all sources were fetched, and this is their first fault, at this offset of the source in the file of this name
+-- What was read has this first fault, at this offset of the source of this name.
 pub record IsRefused (words : List (List ℕ)) (files : Option Files) (name source : List ℕ) (fault : Fault) (offset : ℕ) : Type 0 where
-  pub contents : List (List ℕ)
-  pub read : HasAll words files contents
+  pub texts : Texts
+  pub read : HasAll words files texts
   pub file : ℕ
-  pub name_is : slice_get (names_of words read.asked) file ≡ Some name
-  pub source_is : slice_get contents file ≡ Some source
-  pub refused : HasFirstFault contents file fault offset
+  pub name_is : slice_get (names_told words read.asked) file ≡ Some name
+  pub source_is : slice_get texts.sources file ≡ Some source
+  pub refused : HasFirstFault texts.sources file fault offset
 
--- all sources were fetched for a run and compile, but aren't of the form that can be run; the first file has this name
-pub record IsOfNoForm (words : List (List ℕ)) (files : Option Files) (name : List ℕ) : Type 0 where
-  pub contents : List (List ℕ)
-  pub read : HasAll words files contents
-  pub runs : read.asked.command ≡ commands.Run
-  pub name_is : slice_get (names_of words read.asked) 0 ≡ Some name
-  pub refused : HasNoForm contents
+-- What was read for a run compiles, and its script has this first fault.
+pub record IsScriptRefused (words : List (List ℕ)) (files : Option Files) (fault : ScriptFault) : Type 0 where
+  pub texts : Texts
+  pub read : HasAll words files texts
+  pub size : Option ℕ
+  pub runs : AsksRun read.asked size
+  pub compiled : Compiles texts.sources
+  pub refused : script_fault texts.script fault
 
--- all sources were fetched to be checked, and compile
+-- What was read to be checked compiles.
 pub record IsChecked (words : List (List ℕ)) (files : Option Files) : Type 0 where
-  pub contents : List (List ℕ)
-  pub read : HasAll words files contents
+  pub texts : Texts
+  pub read : HasAll words files texts
   pub checks : read.asked.command ≡ commands.Check
-  pub compiled : Compiles contents
+  pub compiled : Compiles texts.sources
 
--- all sources were fetched to be listed, and compile to this project
+-- What was read to be listed compiles to this project.
 pub record IsListed (words : List (List ℕ)) (files : Option Files) (project : Project) : Type 0 where
-  pub contents : List (List ℕ)
-  pub read : HasAll words files contents
+  pub texts : Texts
+  pub read : HasAll words files texts
   pub lists : read.asked.command ≡ commands.List
-  pub compiled : compiles contents project
+  pub compiled : compiles texts.sources project
+
+-- The words ask for a run, of files or of a workload of this size. What was read compiles to the origin's project, and its script has the
+-- origin's events. What is kept is the round-robin run of this origin within the order's limits, which is a run of the preemptive
+-- machine on the trees of the project; so many instructions led to its entries.
+pub record IsRun (words : List (List ℕ)) (files : Option Files) (kept : Kept) (size : Option ℕ) (origin : Origin) (instructions : ℕ) : Type 0 where
+  pub texts : Texts
+  pub read : HasAll words files texts
+  pub runs : AsksRun read.asked size
+  pub compiled : compiles texts.sources origin.project
+  pub scripted : events texts.script origin.events
+  pub run : IsSerialRun origin read.asked.limits kept.history kept.loose instructions kept.ending
 
 -- why an order is answered as it is
 pub data Cause : Type 0 where
@@ -130,11 +108,11 @@ pub data Cause : Type 0 where
   order_not_built : Cause
   not_fetched : (fault : FileFault) → (number : ℕ) → (file : Wanted) → Cause
   source_refused : (name : List ℕ) → (source : List ℕ) → (fault : Fault) → (offset : ℕ) → Cause
-  form_refused : (name : List ℕ) → Cause
+  script_refused : (fault : ScriptFault) → Cause
   checked : Cause
   listed : (project : Project) → Cause
   no_memory : Cause
-  ran : (project : TraceProject) → (world : World) → Cause
+  ran : (size : Option ℕ) → (origin : Origin) → (instructions : ℕ) → Cause
 
 -- a file isn't fetched: none has its name, the shelf's faults rose, or it is longer than its limit
 abbrev pub FaultHolds : Option Files → ℕ → ℕ → FileFault → Wanted → Type 0
@@ -150,11 +128,11 @@ Holds words files before now kept order_not_built = (kept ≡ nothing_kept) × A
 Holds words files before now kept (not_fetched fault number file) =
     (kept ≡ nothing_kept) × ComesTo words files number file × FaultHolds files before now fault file
 Holds words files before now kept (source_refused name source fault offset) = (kept ≡ nothing_kept) × IsRefused words files name source fault offset
-Holds words files before now kept (form_refused name) = (kept ≡ nothing_kept) × IsOfNoForm words files name
+Holds words files before now kept (script_refused fault) = (kept ≡ nothing_kept) × IsScriptRefused words files fault
 Holds words files before now kept checked = (kept ≡ nothing_kept) × IsChecked words files
 Holds words files before now kept (listed project) = (kept ≡ nothing_kept) × IsListed words files project
 Holds words files before now kept no_memory = (kept ≡ nothing_kept) × (asked : Order) × AskFor words asked
-Holds words files before now kept (ran project world) = IsRun words files kept project world
+Holds words files before now kept (ran size origin instructions) = IsRun words files kept size origin instructions
 
 abbrev pub ending_status : Ending → ℕ
 ending_status endings.Finished = 0
@@ -174,11 +152,11 @@ status_of kept (workers_refused index) = 2
 status_of kept order_not_built = 2
 status_of kept (not_fetched fault number file) = fault_status fault
 status_of kept (source_refused name source fault offset) = 1
-status_of kept (form_refused name) = 1
+status_of kept (script_refused fault) = 4
 status_of kept checked = 0
 status_of kept (listed project) = 0
 status_of kept no_memory = 6
-status_of kept (ran project world) = ending_status kept.ending
+status_of kept (ran size origin instructions) = ending_status kept.ending
 
 abbrev pub fault_text : FileFault → List ℕ
 fault_text faults.Absent = codes "absent"
@@ -200,9 +178,31 @@ file_text fault number name = codes "file " ++ decimal number ++ codes " " ++ fa
 abbrev pub told_text : Position → Fault → List ℕ
 told_text at fault = codes ":" ++ decimal at.line ++ codes ":" ++ decimal at.column ++ codes ": " ++ source_fault_text fault ++ codes "\n"
 
--- where a source begins
-abbrev pub start : Position
-start = record { line = 1; column = 1 }
+abbrev pub line_text : ℕ → List ℕ → List ℕ
+line_text line words = codes "script line " ++ decimal line ++ codes ": " ++ words ++ codes "\n"
+
+abbrev pub memory_text : List ℕ
+memory_text = codes "out of memory\n"
+
+-- what is told of a script; want of memory is no fault of one
+abbrev pub script_text : ScriptFault → List ℕ
+script_text (script_faults.UnknownEvent line) = line_text line (codes "unknown event")
+script_text (script_faults.BadArgument line) = line_text line (codes "bad argument")
+script_text script_faults.TooManyLines = line_text (suc MOST_SCRIPT_LINES) (codes "too many lines")
+script_text script_faults.Memory = memory_text
+
+-- what is told of a workload of this size, whose source has so many bytes
+abbrev pub made_line : ℕ → ℕ → List ℕ
+made_line size bytes = codes "made " ++ decimal size ++ codes " bytes " ++ decimal bytes ++ codes "\n"
+
+-- what is told of the run of such a workload: that it was made, and the line that closes a report
+abbrev pub made_text : ℕ → ℕ → List Entry → EndState → List ℕ
+made_text size bytes history end = made_line size bytes ++ closing_line (length history) end.work end.instructions end.ending
+
+-- what is told of a run of files or of a workload
+abbrev pub run_text : Option ℕ → List Entry → EndState → List ℕ
+run_text None history end = report_text history end
+run_text (Some size) history end = made_text size (length (workload_text size)) history end
 
 -- the text of a cause
 abbrev pub text_of : Kept → Cause → List ℕ
@@ -211,11 +211,11 @@ text_of kept (workers_refused index) = words_text (out_of_range index)
 text_of kept order_not_built = codes "words 0: form not built\n"
 text_of kept (not_fetched fault number file) = file_text fault number file.name
 text_of kept (source_refused name source fault offset) = name ++ told_text (place source offset) fault
-text_of kept (form_refused name) = name ++ told_text start source_faults.NotBuilt
+text_of kept (script_refused fault) = script_text fault
 text_of kept checked = codes "ok\n"
 text_of kept (listed project) = listing (translation project)
-text_of kept no_memory = codes "out of memory\n"
-text_of kept (ran project world) = report project kept.history world kept.loose kept.ending
+text_of kept no_memory = memory_text
+text_of kept (ran size origin instructions) = run_text size kept.history (end_state origin kept.history kept.loose instructions kept.ending)
 
 -- the text was put whole, and the status is the one that is due; or a put failed, a front of the text was put, and the status is 5
 abbrev pub Delivers : {K : Type 0} → (K → Option (List ℕ)) → (K → ℕ) → K → K → ℕ → List ℕ → ℕ → Type 0

@@ -1,6 +1,6 @@
 -- What the words ask for, and what of that can be done.
-use Rattle.std.specs.Prelude.{◌≡◌, ℕ, ◌<◌, Bool, true, false, ◌&&◌, not, is_some, List, map, Option, Some, Ok, Err, ◌⊎◌}
-use Rattle.ci_base.specs.declared.bounds.TheConstants.{MOST_SOURCE_BYTES}
+use Rattle.std.specs.Prelude.{◌≡◌, ℕ, ◌<◌, Bool, true, false, not, List, [], ◌∷◌, ◌++◌, map, Option, None, Some, Ok, Err, ◌⊎◌}
+use Rattle.ci_base.specs.declared.bounds.TheConstants.{MOST_SCRIPT_BYTES, MOST_SOURCE_BYTES}
 use Rattle.ci_words.specs.declared.command.Command.{Command}
 use Rattle.ci_words.specs.declared.command.Command.TheVariants as commands
 use Rattle.ci_words.specs.declared.fault.WordFault.{WordFault}
@@ -24,30 +24,44 @@ words_at words indexes = map (word_at words) indexes
 abbrev pub names_of : List (List ℕ) → Order → List (List ℕ)
 names_of words asked = words_at words asked.files
 
--- the files that an order wants, in the order in which they are fetched: its sources
+-- what there is, as a list
+abbrev pub as_list : {X : Type 0} → Option X → List X
+as_list None = []
+as_list (Some x) = x ∷ []
+
+-- the sources that an order wants
+abbrev pub wanted_sources : List (List ℕ) → Order → List Wanted
+wanted_sources words asked = each_within MOST_SOURCE_BYTES (names_of words asked)
+
+-- and its script, if it names one
+abbrev pub wanted_scripts : List (List ℕ) → Order → List Wanted
+wanted_scripts words asked = each_within MOST_SCRIPT_BYTES (words_at words (as_list asked.script))
+
+-- the files that an order wants, in the order in which they are fetched: its sources and then its script
 abbrev pub wanted_of : List (List ℕ) → Order → List Wanted
-wanted_of words asked = each_within MOST_SOURCE_BYTES (names_of words asked)
+wanted_of words asked = wanted_sources words asked ++ wanted_scripts words asked
 
--- no script, no slice and no budget is given, and no journal is asked for
-abbrev pub is_plain : Order → Bool
-is_plain asked = not (is_some asked.script) && (not (is_some asked.slice_at) && (not (is_some asked.budget_at) && not asked.as_journal))
-
--- what is built of a command: `run` without these options, `check` and `list`
+-- what is built of a command: all but the journals
 abbrev pub is_built_of : Command → Order → Bool
-is_built_of commands.Run asked = is_plain asked
+is_built_of commands.Run asked = not asked.as_journal
 is_built_of commands.Check asked = true
 is_built_of commands.List asked = true
 is_built_of commands.Replay asked = false
-is_built_of commands.Make asked = false
+is_built_of commands.Make asked = true
 
 abbrev pub is_built : Order → Bool
 is_built asked = is_built_of asked.command asked
 
--- the command of what can be done
-abbrev pub command_of_job : Job → Command
-command_of_job jobs.Run = commands.Run
-command_of_job jobs.Check = commands.Check
-command_of_job jobs.List = commands.List
+-- the order asks for a run of files, or for one of a workload of this size
+abbrev pub AsksRun : Order → Option ℕ → Type 0
+AsksRun asked None = asked.command ≡ commands.Run
+AsksRun asked (Some size) = (asked.command ≡ commands.Make) × (asked.number ≡ size)
+
+-- the order asks for this job
+abbrev pub AsksJob : Order → Job → Type 0
+AsksJob asked (jobs.Run size) = AsksRun asked size
+AsksJob asked jobs.Check = asked.command ≡ commands.Check
+AsksJob asked jobs.List = asked.command ≡ commands.List
 
 -- the words ask for this order, which is built and has no worker threads
 pub record AskFor (words : List (List ℕ)) (asked : Order) : Type 0 where

@@ -1,13 +1,11 @@
 -- What holds for a run where the words don't say otherwise.
-use Rattle.std.specs.Prelude.{ℕ, false, List, [], ◌∷◌, codes}
-use Rattle.ci_base.specs.declared.bounds.TheConstants.{GIVEN_BUDGET}
-use Rattle.ci_base.specs.declared.event.Event.{Event}
-use Rattle.ci_base.specs.declared.event.EventKind.TheVariants as events
+use Rattle.std.specs.Prelude.{ℕ, List, [], ◌∷◌, codes}
 
--- a task is started from Main, without arguments
-abbrev pub default_script : List Event
-default_script = record { soon = false; what = events.Run (codes "Main") [] } ∷ []
+-- the script: a task is started from Main, without arguments
+abbrev pub default_script : List ℕ
+default_script = codes "run Main()"
 
--- the work that a run may take
-abbrev pub default_budget : ℕ
-default_budget = GIVEN_BUDGET
+-- the script that is given, or the default
+abbrev pub script_of : List (List ℕ) → List ℕ
+script_of [] = default_script
+script_of (script ∷ rest) = script

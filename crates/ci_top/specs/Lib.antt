@@ -1,16 +1,9 @@
-pub mod Lists
-pub mod Meaning
-pub mod Shared
-pub mod World
-pub mod Work
-pub mod History
-pub mod Report
 pub mod Fetching
 pub mod Asked
 pub mod Compile
 pub mod Defaults
+pub mod Reading
 pub mod Answers
-pub mod Ran
 pub mod Decisions
 pub mod OneCause
 pub mod Plain

@@ -1,7 +1,7 @@
 //! Which orders are accepted.
 ghost use Rattle.std.specs.Prelude.{◌≡◌, ◌<◌, true, false, Some, IfOk, IfErr, IfSome, IsNone, IsSome};
 ghost use Rattle.ci_words.specs.Bounds.{IsInBounds};
-ghost use Rattle.ci_top.specs.Asked.{AskFor, command_of_job, is_plain as plain, is_built};
+ghost use Rattle.ci_top.specs.Asked.{AskFor, AsksJob, is_built};
 ghost use Rattle.ci_top.specs.Decisions.{RefusesWords};
 
 use crate::decision::Decision;
@@ -11,10 +11,11 @@ use ci_words::{Command, Order, WordFault, read_words};
 /// The number of the fault of words whose number is out of its range.
 const OUT_OF_RANGE: u8 = 6;
 
-/// What can be done: the commands that are built.
+/// What can be done.
 #[derive(Clone, Copy, Debug, PartialEq, Eq)]
 pub(crate) enum Job {
-    Run,
+    /// A run of files, or of a workload of this size.
+    Run(Option<u32>),
     Check,
     List,
 }
@@ -30,7 +31,7 @@ pub(crate) struct Accepted {
 pub(crate) fn accept(words: &[Bytes]) -> Result<Accepted, Decision<'_>>
     ensures asked { IfOk result (λ accepted. AskFor words.now accepted.order) }
     ensures within { IfOk result (λ accepted. IsInBounds words.now accepted.order) }
-    ensures job { IfOk result (λ accepted. accepted.order.command ≡ command_of_job accepted.job) }
+    ensures job { IfOk result (λ accepted. AsksJob accepted.order accepted.job) }
     ensures refused { IfErr result (λ decision. RefusesWords words.now decision) }
 {
     let order = match read_words(words) {
@@ -60,26 +61,17 @@ fn workers_index(order: &Order) -> Option<u32>
     order.workers_at
 }
 
-/// What is to be done for the order, where that is built: `check`, `list`, and `run` without options but for worker threads.
+/// What is to be done for the order, where that is built: all but `replay`, and a run whose journal is to be written.
 fn job_of(order: &Order) -> Option<Job>
     ensures built { IfSome result (λ job. is_built order.now ≡ true) }
-    ensures job { IfSome result (λ job. order.now.command ≡ command_of_job job) }
+    ensures job { IfSome result (λ job. AsksJob order.now job) }
     ensures unbuilt { IsNone result → is_built order.now ≡ false }
 {
     match order.command {
-        Command::Run if is_plain(order) => Some(Job::Run),
+        Command::Run if !order.as_journal => Some(Job::Run(None)),
+        Command::Make => Some(Job::Run(Some(order.number))),
         Command::Check => Some(Job::Check),
         Command::List => Some(Job::List),
-        Command::Run | Command::Replay | Command::Make => None,
+        Command::Run | Command::Replay => None,
     }
-}
-
-/// Whether no script, no slice and no budget is given, and no journal is asked for.
-fn is_plain(order: &Order) -> bool
-    ensures { result ≡ plain order.now }
-{
-    order.script.is_none()
-        && order.slice_at.is_none()
-        && order.budget_at.is_none()
-        && !order.as_journal
 }

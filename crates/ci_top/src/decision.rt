@@ -1,7 +1,8 @@
 //! What becomes of an order.
-use crate::run::Ran;
 use ci_base::{Bytes, Position};
 use ci_program::Program;
+use ci_runtime::Ended;
+use ci_script::ScriptFault;
 use ci_source::Fault;
 use ci_words::WordFault;
 
@@ -14,6 +15,15 @@ pub enum FileFault {
     ReadFault,
     /// It is longer than its limit.
     TooLong,
+}
+
+/// A workload that was made.
+#[derive(Clone, Copy, Debug, PartialEq, Eq)]
+pub(crate) struct Made {
+    /// The number of its functions beside Main.
+    pub(crate) size: u32,
+    /// The length of its source.
+    pub(crate) bytes: u32,
 }
 
 /// What becomes of an order, before it is told.
@@ -29,18 +39,22 @@ pub(crate) enum Decision<'w> {
         number: u32,
         name: &'w Bytes,
     },
-    /// The sources have this first fault, told at this place of the file of this name.
+    /// The sources have this first fault, told at this place of the source of this name.
     SourceRefused {
-        name: &'w Bytes,
+        name: &'w [u8],
         fault: Fault,
         place: Position,
     },
-    /// The sources compile, and aren't of the form that can be run. The first file has this name.
-    FormRefused(&'w Bytes),
+    /// The sources compile, and the script has this first fault.
+    ScriptRefused(ScriptFault),
     /// The sources were checked, and compile.
     Checked,
     /// The sources compile to this program, whose code is to be listed.
     Listed(Program),
     NoMemory,
-    Ran(Ran),
+    /// This is kept of the run of files, or of the workload that was made.
+    Ran {
+        made: Option<Made>,
+        ended: Ended,
+    },
 }

@@ -7,12 +7,10 @@ mod decide;
 mod decision;
 mod defaults;
 mod fetch;
-pub mod history;
 pub mod laws;
 mod outcome;
-mod report;
-mod run;
 mod tell;
+mod texts;
 mod top;
 
 pub use compiling::{CompileFault, Sources, compile};

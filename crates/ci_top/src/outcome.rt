@@ -1,6 +1,6 @@
 //! What a call of the program leaves behind.
-use crate::history::History;
 use ci_base::{Ending, LooseList};
+use ci_history::History;
 
 /// The outcome of an order.
 #[derive(Debug, Drop)]

@@ -1,16 +1,17 @@
 //! The top call.
-ghost use Rattle.std.specs.Prelude.{◌≡◌};
+ghost use Rattle.std.specs.Prelude.{◌≡◌, ◌⊎◌, Some};
+ghost use Rattle.ci_words.specs.declared.command.Command.TheVariants as commands;
 ghost use Rattle.ci_top.specs.Answers.{Answers, kept_of};
-ghost use Rattle.ci_top.specs.Asked.{AreRefused};
+ghost use Rattle.ci_top.specs.Asked.{AreRefused, command_of};
 ghost use Rattle.ci_top.specs.Decisions.{decision_kept};
 ghost use Rattle.ci_top.specs.Doing.{DoesOrder};
 
 use crate::decide::decide;
 use crate::decision::Decision;
-use crate::history::History;
 use crate::outcome::Outcome;
 use crate::tell::deliver;
 use ci_base::{Bytes, Ending, LooseList};
+use ci_history::History;
 use ci_outside::{Gate, Shelf, Sink};
 use ci_source::one_meaning;
 use std::alloc::Global;
@@ -27,7 +28,7 @@ pub fn cicode_alone<S: Shelf, K: Sink>(
 ) -> Outcome
     ensures { DoesOrder S.files S.faults K.bytes K.faults words.now shelf.old shelf.new out.old out.new result }
 {
-    // the law on which `check_answers` and `run_answers` rest
+    // the laws on which the answers of orders that can be done rest
     one_meaning();
     answer(alloc, words, shelf, out)
 }
@@ -50,7 +51,7 @@ pub fn cicode<S: Shelf, K: Sink, G: Gate + Sync>(
 fn answer<S: Shelf, K: Sink>(alloc: Global, words: &[Bytes], shelf: &mut S, out: &mut K) -> Outcome
     ensures answer { Answers S.files S.faults K.bytes K.faults words.now shelf.old shelf.new out.old out.new result }
     ensures contents { S.files shelf.new ≡ S.files shelf.old }
-    ensures unfetched { AreRefused words.now → shelf.new ≡ shelf.old }
+    ensures unfetched { AreRefused words.now ⊎ (command_of words.now ≡ Some commands.Make) → shelf.new ≡ shelf.old }
 {
     let decision = decide(alloc, words, shelf);
     let status = deliver(&decision, out);
@@ -62,18 +63,17 @@ fn keep(alloc: Global, decision: Decision, status: u8) -> Outcome
     ensures status { result.status ≡ status }
     ensures kept { kept_of result ≡ decision_kept decision.entry }
 {
-    let loose = LooseList::empty(alloc);
     match decision {
-        Decision::Ran(ran) => Outcome {
+        Decision::Ran { ended, .. } => Outcome {
             status,
-            history: ran.history,
-            loose,
-            ending: ran.end.ending,
+            ending: ended.end.ending,
+            history: ended.history,
+            loose: ended.loose,
         },
         _ => Outcome {
             status,
             history: History::empty(alloc),
-            loose,
+            loose: LooseList::empty(alloc),
             ending: Ending::NotRun,
         },
     }

@@ -9,3 +9,5 @@ mod doing;
 mod refusals;
 #[cfg(test)]
 mod runs;
+#[cfg(test)]
+mod shown;

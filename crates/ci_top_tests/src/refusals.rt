@@ -2,10 +2,11 @@
 use crate::doing::{is_refusal, order};
 use std::test::Fail;
 
-/// A shelf with a source that compiles and one that doesn't.
-const SHELF: [(&str, &[u8]); 2] = [
+/// A shelf with a source that compiles and one that doesn't, and a script whose second line is none.
+const SHELF: [(&str, &[u8]); 3] = [
     ("a.ci", b"FUNCTION Main() TraceMsg(\"hi\"); END"),
     ("b.ci", b"FUNCTION F()\n  nosuch = 1;\nEND"),
+    ("s", b"run Main()\ntock 5\n"),
 ];
 
 /// The listing of the first source.
@@ -14,11 +15,61 @@ const LISTING: &str =
 
 /// Words, the number of the fetch that fails, how much is put at once, the number of the put that fails, what is put in the
 /// end, and the status; 0 is no call.
-static ROWS: [(&str, u64, usize, u64, &str, u8); 13] = [
+static ROWS: [(&str, u64, usize, u64, &str, u8); 20] = [
     ("check a.ci", 0, 4096, 0, "ok\n", 0),
     ("check a.ci b.ci", 0, 4096, 0, "b.ci:2:3: name unknown\n", 1),
     ("run", 1, 4096, 0, "words 1: no file\n", 2),
-    ("make 1", 1, 4096, 0, "words 0: form not built\n", 2),
+    (
+        "replay a.ci --from j",
+        1,
+        4096,
+        0,
+        "words 0: form not built\n",
+        2,
+    ),
+    (
+        "run a.ci --journal",
+        1,
+        4096,
+        0,
+        "words 0: form not built\n",
+        2,
+    ),
+    ("make 0", 1, 4096, 0, "words 1: out of range\n", 2),
+    (
+        "run a.ci --script s",
+        0,
+        4096,
+        0,
+        "script line 2: unknown event\n",
+        4,
+    ),
+    // Of two refusals that of the sources comes first.
+    (
+        "run b.ci --script s",
+        0,
+        4096,
+        0,
+        "b.ci:2:3: name unknown\n",
+        1,
+    ),
+    (
+        "run a.ci b.ci --script t",
+        0,
+        4096,
+        0,
+        "file 3 absent: t\n",
+        3,
+    ),
+    (
+        "run a.ci --script s",
+        2,
+        4096,
+        0,
+        "file 2 read fault: s\n",
+        15,
+    ),
+    ("run a.ci --script s", 0, 1, 9, "script l", 5),
     ("list a.ci", 0, 4096, 0, LISTING, 0),
     ("list a.ci b.ci", 0, 4096, 0, "b.ci:2:3: name unknown\n", 1),
     (

@@ -23,7 +23,7 @@ fn main(rt: HostRuntime) -> ExitCode {
             .status
         }
         Err(NoWords::Memory) => tell(&mut out, b"out of memory\n", 6),
-        Err(NoWords::NotText) => tell(&mut out, b"words 0: form not built\n", 2),
+        Err(NoWords::NotText) => tell(&mut out, b"words 0: unknown command\n", 2),
     };
     ExitCode::from(status)
 }

@@ -12,14 +12,4 @@ returns-in-NotFetched g c =
     (rw (c.bytes-in-NotFetched.ensures.value, c.file_words.ensures, c.bytes-in-NotFetched-2.ensures) at c.put_three.ensures)
 
 pub returns-in-SourceRefused : goal.returns-in-SourceRefused
-returns-in-SourceRefused g c =
-    rw c.in-SourceRefused.is
-    (rw (c.bytes-in-SourceRefused.ensures, c.bytes-in-SourceRefused-2.ensures.value, c.told_at.ensures) at c.put_two.ensures)
-
-pub returns-in-FormRefused : goal.returns-in-FormRefused
-returns-in-FormRefused g c =
-    rw c.in-FormRefused.is
-    (rw (c.bytes-in-FormRefused.ensures, c.bytes-in-FormRefused-2.ensures.value, c.told_at-in-FormRefused.ensures) at c.put_two-in-FormRefused.ensures)
-
-pub returns-in-Ran : goal.returns-in-Ran
-returns-in-Ran g c = rw c.in-Ran.is c.write_report.ensures
+returns-in-SourceRefused g c = rw c.in-SourceRefused.is (rw (c.bytes-in-SourceRefused.ensures.value, c.told_at.ensures) at c.put_two.ensures)
