@@ -1,4 +1,4 @@
--- The workloads of crates/ci_bench in Lua: the same turns, and the same text at the end.
+-- The workloads of bench/workloads that compute, in Lua: the same turns, and the same text at the end.
 --
 --   lua5.4 bench/workloads.lua WORKLOAD TURNS
 
