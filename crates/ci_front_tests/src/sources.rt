@@ -4,7 +4,7 @@ ghost use Rattle.ci_base.specs.declared.bounds.TheConstants.{MOST_SOURCE_BYTES};
 
 use ci_base::bounds::{MOST_FILES, MOST_SOURCE_BYTES};
 use ci_base::{Bytes, Kind, Text, Value};
-use ci_source::{Compiled, Fault, FormFault, SourceFault, first_form, one_meaning, read_sources};
+use ci_source::{Compiled, Fault, SourceFault, one_meaning, read_sources};
 use ci_tree::layout;
 use std::alloc::Global;
 use std::process::Abort;
@@ -115,27 +115,5 @@ fn the_first_fault_is_told_at_its_file_and_offset(rt: HostRuntime) -> Result<(),
         };
         assert_eq!(rt; found, want, "of {texts:?}");
     }
-    Ok(())
-}
-
-#[test]
-fn one_function_main_that_traces_is_of_the_first_form(rt: HostRuntime) -> Result<(), Fail> {
-    let alloc = rt.alloc();
-    let main = "function main() tracemsg(\"hi\") ; TraceMsg(\"\"); end";
-    let Ok(compiled) = read(&rt, alloc, &["", main, "! c"])? else {
-        return Err(Fail::from("a project"));
-    };
-    let Ok(project) = first_form(alloc, &compiled.trees) else {
-        return Err(Fail::from("the first form"));
-    };
-    assert_eq!(rt; project.name.bytes(), b"main".as_slice());
-    assert_eq!(rt; project.traces.texts().len(), 2);
-    let Ok(other) = read(&rt, alloc, &[main, "INT a;"])? else {
-        return Err(Fail::from("another project"));
-    };
-    let Err(fault) = first_form(alloc, &other.trees) else {
-        return Err(Fail::from("another form"));
-    };
-    assert_eq!(rt; fault, FormFault::NotBuilt);
     Ok(())
 }

@@ -1,8 +1,5 @@
-pub mod Statements
-pub mod Items
 pub mod Options
 pub mod Offsets
-pub mod Running
 pub mod Zipped
 pub mod Sourcing
 pub mod OneFault

@@ -34,7 +34,6 @@ fault_text faults.LimitParameters = codes "limit parameters"
 fault_text faults.LimitLocals = codes "limit locals"
 fault_text faults.LimitCells = codes "limit cells"
 fault_text faults.LimitArray = codes "limit array"
-fault_text faults.NotBuilt = codes "form not built"
 
 -- the fault of a limit that is passed
 abbrev pub limit_fault : Limit → Fault

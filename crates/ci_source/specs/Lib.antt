@@ -1,5 +1,4 @@
 pub mod Faults
-pub mod FirstForm
 pub mod Sources
 pub mod Compiling
 pub mod Telling

@@ -1,13 +1,10 @@
 -- What is told of sources, read or refused.
-use Rattle.std.specs.Prelude.{◌≡◌, ℕ, ◌*◌, ◌<◌, ◌≤◌, true, List, [], length, map, codes, Option, Some, slice_index_or}
-use Rattle.std.specs.Str.{str_eq_ignore_ascii_case}
-use Rattle.ci_base.specs.declared.bounds.TheConstants.{MOST_TOKENS}
+use Rattle.std.specs.Prelude.{◌≡◌, ℕ, ◌<◌, ◌≤◌, List, [], length, map, Option, Some, slice_index_or}
 use Rattle.ci_lexer.specs.declared.fault.LexFault.{LexFault}
 use Rattle.ci_lexer.specs.declared.fault.LexFault.TheVariants as lex_faults
 use Rattle.ci_names.specs.Binding.{binds}
 use Rattle.ci_expressions.specs.declared.fault.ParseFault.{ParseFault}
 use Rattle.ci_expressions.specs.declared.fault.ParseFault.TheVariants as parse_faults
-use Rattle.ci_tree.specs.declared.trace_project.TraceProject.{TraceProject}
 use Rattle.ci_tree.specs.declared.token.Token.{Token}
 use Rattle.ci_tree.specs.Refused.{unexpected, unexpected_end, too_deep}
 use Rattle.ci_tree.specs.Seen.{items_of}
@@ -18,16 +15,6 @@ use Rattle.ci_source.specs.declared.telling.SourceFault.{SourceFault}
 use Rattle.ci_source.specs.declared.telling.SourceFault.TheVariants as source_faults
 use Rattle.ci_source.specs.Sources.{lexical_fault, grammar_fault}
 use Rattle.ci_source.specs.Compiling.{parse_to, HasFirstFault}
-
--- a task can be started from the project's function by the name Main
-abbrev pub IsMain : TraceProject → Type 0
-IsMain project = str_eq_ignore_ascii_case (codes "Main") project.name ≡ true
-
--- The project can be run: a task can be started from its function, and its texts are few enough for its work to stay within the
--- default budget, since each has at least four tokens of its own.
-pub record CanRun (project : TraceProject) : Type 0 where
-  pub main : IsMain project
-  pub few : 4 * length project.traces ≤ MOST_TOKENS
 
 -- these are the trees of the sources, and the project that they bind to
 pub record ReadsTo (sources : List (List ℕ)) (compiled : Compiled) : Type 0 where

@@ -59,8 +59,6 @@ pub enum Fault {
     LimitCells,
     /// An array of no element, or of more than 100,000.
     LimitArray,
-    /// Sources that can't be run yet.
-    NotBuilt,
 }
 
 /// The words for a fault.
@@ -95,7 +93,6 @@ pub fn fault_text(fault: Fault) -> &'static [u8]
         Fault::LimitLocals => b"limit locals",
         Fault::LimitCells => b"limit cells",
         Fault::LimitArray => b"limit array",
-        Fault::NotBuilt => b"form not built",
     }
 }
 

@@ -10,7 +10,6 @@ mod lists;
 mod making;
 mod project;
 mod token;
-mod trace_project;
 mod tree;
 
 pub use file_tree::FileTree;
@@ -20,7 +19,6 @@ pub use layouts::layout;
 pub use lists::list_with_room;
 pub use project::Project;
 pub use token::{Keyword, Sign, Token, TokenKind, TokenList};
-pub use trace_project::{TextList, TraceProject};
 pub use tree::{
     Clause, ClauseList, Const, Expr, ExprKind, ExprList, Item, ItemList, Label, LabelList, Length,
     Link, LinkList, LocalAt, LocalAtList, Operator, Param, ParamList, Stmt, StmtList, TypeAt,
