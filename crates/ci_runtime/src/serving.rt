@@ -49,7 +49,7 @@ pub(crate) fn serve(
             request,
             reply,
         },
-        &store.birth(),
+        store.birth(),
     );
     answered
 }
@@ -76,7 +76,7 @@ pub(crate) fn happen(
             event: event.copy(),
             reply,
         },
-        &store.birth(),
+        store.birth(),
     );
 }
 

@@ -27,7 +27,7 @@ pub(crate) fn settle(
     end_victim(seats, store, victim);
     deliver(seats, store.deliveries());
     if let Some(birth) = store.birth() {
-        seats.begin(code, &birth);
+        seats.begin(code, birth);
     }
 }
 

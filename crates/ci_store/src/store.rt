@@ -118,13 +118,10 @@ impl Store {
     }
 
     /// Whom the last request or event started. Takes no memory.
-    pub fn birth(&self) -> Option<Birth>
-        ensures { result ≡ self.now.birth }
+    pub fn birth(&self) -> &Option<Birth>
+        ensures { result.now ≡ self.now.birth }
     {
-        match &self.parts.birth {
-            Some(birth) => Some(birth.copy()),
-            None => None,
-        }
+        &self.parts.birth
     }
 
     /// How the task stands. Takes no memory.

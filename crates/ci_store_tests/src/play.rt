@@ -94,7 +94,7 @@ impl Play {
     // Who was started, and who was answered.
     fn put_others(&self, out: &mut Shown) {
         if let Some(birth) = self.store.birth() {
-            out.birth(&birth);
+            out.birth(birth);
         }
         for delivery in self.store.deliveries() {
             out.delivery(delivery);
