@@ -174,6 +174,18 @@ impl TaskStack {
         self.count = place + 1;
     }
 
+    /// The text of these bytes takes the place of so many values on top, or goes on top of all where there are none.
+    pub fn replace_by_text(&mut self, taken: usize, bytes: &[u8])
+        requires there { taken ≤ length self.old }
+        requires room { length self.old - taken < MOST_ROOM }
+        requires short { length bytes.now ≤ MOST_TEXT_BYTES }
+        ensures { (low high : List Value) → self.old ≡ low ++ high → length high ≡ taken → self.new ≡ low ++ Str bytes.now ∷ [] }
+    {
+        let place = self.count - taken;
+        self.table.put_text(place, bytes);
+        self.count = place + 1;
+    }
+
     /// So many values on top are taken off.
     #[inline(always)]
     pub fn take_off(&mut self, taken: usize)

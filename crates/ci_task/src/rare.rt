@@ -15,7 +15,7 @@ use crate::operators::{compute, operate};
 use crate::run::instruction_of;
 use crate::texts::{compare, join, take_part};
 use crate::went::Went;
-use ci_base::{PrivateName, Text, Value};
+use ci_base::{PrivateName, Text};
 use ci_code::{Instruction, RawFunction, RawParts};
 use ci_stack::TaskStack;
 
@@ -33,7 +33,7 @@ fn push_text(code: &RawParts, number: u32, at: Active, stack: &mut TaskStack)
     ensures { Leaves code.now (does.PushStr number) at stack.old (next_place at) stack.new }
 {
     let text = text_at(code, number);
-    stack.replace_by(0, &Value::Str(text.copy()));
+    stack.replace_by_text(0, text.bytes());
 }
 
 /// The sort of the last element read goes on top.
@@ -50,7 +50,7 @@ fn push_element(code: &RawParts, at: Active, stack: &mut TaskStack, heard: &Hear
     requires { CanHeard code.now does.TakeText at stack.old heard.now }
     ensures { DoesHeard code.now does.TakeText at stack.old heard.now On stack.new heard.now }
 {
-    stack.replace_by(0, &Value::Str(heard.text.copy()));
+    stack.replace_by_text(0, heard.text.bytes());
 }
 
 /// Whether two INTs become one, and nothing can fail.

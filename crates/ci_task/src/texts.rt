@@ -53,20 +53,20 @@ pub fn join(code: &RawParts, at: Active, stack: &mut TaskStack, heard: &mut Hear
     if first.len() + second.len() > MOST_TEXT_BYTES {
         return fail(2, Kind::Str, TEXT_TOO_LONG, stack, heard);
     }
-    let both = Value::Str(joined(first, second));
-    stack.replace_by(2, &both);
+    let both = joined(first, second);
+    stack.replace_by_text(2, both.as_slice());
     Went::On
 }
 
-/// The text of these bytes and those.
-fn joined(first: &[u8], second: &[u8]) -> Text
+/// These bytes and those, one behind the other.
+fn joined(first: &[u8], second: &[u8]) -> ArrayVec<u8, MOST_TEXT_BYTES>
     requires { length first.now + length second.now ≤ MOST_TEXT_BYTES }
-    ensures { result ≡ first.now ++ second.now }
+    ensures { result.items ≡ first.now ++ second.now }
 {
     let mut both: ArrayVec<u8, MOST_TEXT_BYTES> = ArrayVec::new();
     let _first_fits = both.try_extend_from_slice(first);
     let _second_fits = both.try_extend_from_slice(second);
-    Text::of_few(both.as_slice())
+    both
 }
 
 /// A text and two INTs give place to a part of the text.

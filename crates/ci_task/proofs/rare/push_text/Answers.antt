@@ -11,8 +11,8 @@ text_at-text-requires c =
     let t = text_there c.args.code.now c.args.number c.args.at c.args.stack.now c.requires.0 c.requires.1 c.requires.3 in
     slice_get_within c.args.code.now.texts c.args.number t.0 t.1
 
-pub replace_by-requires-clause-room : goal.replace_by-requires-clause-room
-replace_by-requires-clause-room c =
+pub replace_by_text-requires-clause-room : goal.replace_by_text-requires-clause-room
+replace_by_text-requires-clause-room c =
     let t = text_there c.args.code.now c.args.number c.args.at c.args.stack.now c.requires.0 c.requires.1 c.requires.3 in
     omega (arith, can_push c.args.code.now (does.PushStr c.args.number) c.args.at c.args.stack.now c.requires.0 c.requires.1 (Str t.0) t.2 c.requires.2 c.requires.3)
 
@@ -20,8 +20,8 @@ pub returns : goal.returns
 returns c = λ callers heard s room.
     let t = text_there c.args.code.now c.args.number c.args.at c.args.stack.now callers heard room in
     let same : c.text_at-text.result.now ≡ t.0 = some_same c.text_at-text.result.now t.0 (sym c.text_at-text.ensures ∙ t.1) in
-    does_push c.args.code.now (does.PushStr c.args.number) c.args.at c.args.stack.now c.replace_by.new.self callers heard (Str t.0) t.2 s
-    (c.replace_by.ensures c.args.stack.now [] (sym (append-nil c.args.stack.now)) refl ∙ ap (λ (x : List ℕ). c.args.stack.now ++ Str x ∷ []) (c.copy.ensures.value ∙ same))
+    does_push c.args.code.now (does.PushStr c.args.number) c.args.at c.args.stack.now c.replace_by_text.new.self callers heard (Str t.0) t.2 s
+    (c.replace_by_text.ensures c.args.stack.now [] (sym (append-nil c.args.stack.now)) refl ∙ ap (λ (x : List ℕ). c.args.stack.now ++ Str x ∷ []) (c.bytes.ensures.value ∙ same))
   where
     some_same : (x y : List ℕ) → Some x ≡ Some y → x ≡ y
     some_same x y h = cc h

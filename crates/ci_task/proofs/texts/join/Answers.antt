@@ -39,8 +39,8 @@ returns-then-first-second-gt-MOST_TEXT_BYTES c =
 
 pub returns : goal.returns
 returns c =
-    texts_do c.args.code.now does.Cat kinds.Str joined c.args.at c.args.stack.now c.replace_by.new.self c.args.heard.now c.args.heard.now On c.text_at-first.result.now c.text_at-second.result.now (λ m. refl)
+    texts_do c.args.code.now does.Cat kinds.Str joined c.args.at c.args.stack.now c.replace_by_text.new.self c.args.heard.now c.args.heard.now On c.text_at-first.result.now c.text_at-second.result.now (λ m. refl)
     (λ low s v e. text_is c.args.stack.now low (v ∷ []) (c.count-count.result - 2) c.text_at-first.result.now s c.text_at-first.ensures.value e (omega (arith, c.count-count.ensures.value, length_two c.args.stack.now low (Str s) v e)))
     (λ low s e. text_is c.args.stack.now low [] (c.count-count.result - 1) c.text_at-second.result.now s c.text_at-second.ensures.value e (omega (arith, c.count-count.ensures.value, length_last c.args.stack.now low (Str s) e)))
-    (subst (λ (o : Outcome). Came 2 kinds.Str o c.args.stack.now c.args.heard.now On c.replace_by.new.self c.args.heard.now) (sym (joined_short c.text_at-first.result.now c.text_at-second.result.now (omega arith)))
-    (refl, refl, λ low high split many. c.replace_by.ensures low high split many ∙ ap (λ (s : List ℕ). low ++ Str s ∷ []) c.joined.ensures))
+    (subst (λ (o : Outcome). Came 2 kinds.Str o c.args.stack.now c.args.heard.now On c.replace_by_text.new.self c.args.heard.now) (sym (joined_short c.text_at-first.result.now c.text_at-second.result.now (omega arith)))
+    (refl, refl, λ low high split many. c.replace_by_text.ensures low high split many ∙ ap (λ (s : List ℕ). low ++ Str s ∷ []) (c.as_slice.ensures.value ∙ c.joined-both.ensures)))
