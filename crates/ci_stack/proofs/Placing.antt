@@ -184,3 +184,38 @@ copied_text stack new from to v is did f =
   where
     some_same : (u v : Value) → Some u ≡ Some v → u ≡ v
     some_same u v h = cc h
+
+-- a text that changes where it stands
+mark_of : (w : ℤ) (s t : List ℕ) → IsWord w → held w t ≡ Str s → w ≡ pos text_word
+mark_of w s t (inl m) h = m
+mark_of w s t (inr small) h =
+    let other : Int w ≡ Str s = sym (held_number w t small) ∙ h in
+    absurd (cc other)
+
+pub mark_there : (words : List ℤ) (texts : List (List ℕ)) (stack : List Value) (p : ℕ) (s : List ℕ) → All IsWord words → values words texts ≡ stack → slice_get stack p ≡ Some (Str s) → get_or words p (pos 0) ≡ pos text_word
+mark_there words texts stack p s all e f =
+    let h : p < length stack = slice_get_within stack p (Str s) f in
+    let w : ℤ = get_or words p (pos 0) in
+    let here : slice_get stack p ≡ Some (held w (get_or texts p [])) = sym (ap (λ (l : List Value). slice_get l p) e) ∙ values_at words texts p (pos 0) (within_words words texts stack p e h) in
+    mark_of w s (get_or texts p []) (All-get_or IsWord words p (pos 0) (within_words words texts stack p e h) all) (some_same (held w (get_or texts p [])) (Str s) (sym here ∙ f))
+  where
+    some_same : (u v : Value) → Some u ≡ Some v → u ≡ v
+    some_same u v h = cc h
+
+pub changed_text : (words : List ℤ) (texts : List (List ℕ)) (stack : List Value) (p : ℕ) (s part : List ℕ) → All IsWord words → values words texts ≡ stack → slice_get stack p ≡ Some (Str s) → p < length texts → values words (set texts p part) ≡ set stack p (Str part)
+changed_text words texts stack p s part all e f within =
+    ap (λ (l : List ℤ). values l (set texts p part)) (sym (set_same words p (pos 0) (pos text_word) (mark_there words texts stack p s all e f)))
+    ∙ values_text words texts p part within
+    ∙ ap (λ (l : List Value). set l p (Str part)) e
+  where
+    set_same : (xs : List ℤ) (i : ℕ) (d v : ℤ) → get_or xs i d ≡ v → set xs i v ≡ xs
+    set_same [] i d v m = refl
+    set_same (x ∷ xs) zero d v m = ap (λ (y : ℤ). y ∷ xs) (sym m)
+    set_same (x ∷ xs) (suc i) d v m = ap (λ (l : List ℤ). x ∷ l) (set_same xs i d v m)
+
+pub same_set : (stack : List Value) (p : ℕ) (v : Value) → slice_get stack p ≡ Some v → set stack p v ≡ stack
+same_set [] p v h = refl
+same_set (u ∷ stack) zero v h =
+    let same : u ≡ v = cc h in
+    ap (λ (w : Value). w ∷ stack) (sym same)
+same_set (u ∷ stack) (suc p) v h = ap (λ (l : List Value). u ∷ l) (same_set stack p v h)

@@ -67,6 +67,9 @@ length_last stack low v e = ap length e ∙ length-append low (v ∷ [])
 pub length_two : (stack low : List Value) (u v : Value) → stack ≡ low ++ u ∷ v ∷ [] → length stack ≡ length low + 2
 length_two stack low u v e = ap length e ∙ length-append low (u ∷ v ∷ [])
 
+pub length_under : (stack low high : List Value) (v : Value) → stack ≡ low ++ v ∷ high → length stack ≡ length low + suc (length high)
+length_under stack low high v e = ap length e ∙ length-append low (v ∷ high)
+
 pub two_as_one : (stack low : List Value) (u v : Value) → stack ≡ low ++ u ∷ v ∷ [] → stack ≡ (low ++ u ∷ []) ++ v ∷ []
 two_as_one stack low u v e = e ∙ sym (append_assoc low (u ∷ []) (v ∷ []))
 

@@ -1,7 +1,7 @@
 -- What stands on top of a stack.
-use Rattle.std.specs.Prelude.{◌≡◌, ℤ, List, [], ◌∷◌, ◌++◌, Option, Some, None}
+use Rattle.std.specs.Prelude.{◌≡◌, ℕ, ℤ, List, [], ◌∷◌, ◌++◌, length, Option, Some, None}
 use Rattle.ci_base.specs.declared.value.Value.{Value}
-use Rattle.ci_base.specs.declared.value.Value.TheVariants.{Int}
+use Rattle.ci_base.specs.declared.value.Value.TheVariants.{Int, Str}
 
 -- the value on top, and what is below it
 abbrev pub last_of : List Value → Option Value
@@ -20,3 +20,7 @@ EndsInNumber stack = (low : List Value) × (n : ℤ) × (stack ≡ low ++ Int n 
 
 abbrev pub SecondIsNumber : List Value → Type 0
 SecondIsNumber stack = (low : List Value) × (n : ℤ) × (v : Value) × (stack ≡ low ++ Int n ∷ v ∷ [])
+
+-- a text is below so many values on top
+abbrev pub IsTextBelow : List Value → ℕ → Type 0
+IsTextBelow stack above = (low : List Value) × (s : List ℕ) × (high : List Value) × (stack ≡ low ++ Str s ∷ high) × (length high ≡ above)

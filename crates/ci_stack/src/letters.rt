@@ -1,27 +1,28 @@
 //! The text of a place.
-ghost use Rattle.std.specs.Prelude.{◌≡◌, ◌≤◌, ◌+◌, [], ◌++◌, length};
+ghost use Rattle.std.specs.Prelude.{◌≡◌, ◌≤◌, ◌+◌, [], ◌++◌, length, take, drop};
 ghost use Rattle.ci_base.specs.declared.bounds.TheConstants.{MOST_TEXT_BYTES};
 
-use arrayvec::ArrayVec;
-use ci_base::Text;
 use ci_base::bounds::MOST_TEXT_BYTES;
 use std::marker::Model;
 
 /// A text that is written where it stands. Contracts see the list of its bytes.
+///
+/// The bytes of the text are the first ones of the array; those behind them are left from earlier texts.
 #[derive(Debug, Drop)]
 pub struct Letters {
-    kept: ArrayVec<u8, MOST_TEXT_BYTES>,
+    count: usize,
+    bytes: [u8; MOST_TEXT_BYTES],
 }
 
 impl Model for Letters {
     ghost use Rattle.ci_base.specs.declared.bounds.TheConstants.{MOST_TEXT_BYTES};
-    ghost use Rattle.std.specs.Prelude.{List, ℕ, ◌≤◌, length};
+    ghost use Rattle.std.specs.Prelude.{List, ℕ, ◌≤◌, length, take};
 
     ghost Value = { List ℕ };
 
-    ghost view = { λ letters. letters.kept.items };
+    ghost view = { λ letters. take letters.count letters.bytes };
 
-    ghost invariant = { λ letters. length letters.kept.items ≤ MOST_TEXT_BYTES };
+    ghost invariant = { λ letters. letters.count ≤ MOST_TEXT_BYTES };
 }
 
 impl Letters {
@@ -30,7 +31,8 @@ impl Letters {
         ensures { result ≡ [] }
     {
         Letters {
-            kept: ArrayVec::new(),
+            count: 0,
+            bytes: [0; MOST_TEXT_BYTES],
         }
     }
 
@@ -40,17 +42,7 @@ impl Letters {
         ensures value { result.now ≡ self.now }
         ensures within { length result.now ≤ MOST_TEXT_BYTES }
     {
-        self.kept.as_slice()
-    }
-
-    /// The text as a value of its own.
-    pub fn text(&self) -> Text
-        ensures { result ≡ self.now }
-    {
-        match Text::of(self.bytes()) {
-            Some(text) => text,
-            None => unreachable!(),
-        }
+        &self.bytes[..self.count]
     }
 
     /// These bytes take the place of the text.
@@ -58,8 +50,9 @@ impl Letters {
         requires { length bytes.now ≤ MOST_TEXT_BYTES }
         ensures { self.new ≡ bytes.now }
     {
-        self.kept.clear();
-        self.join(bytes);
+        let all = bytes.len();
+        self.bytes[..all].copy_from_slice(bytes);
+        self.count = all;
     }
 
     /// These bytes follow the text.
@@ -67,9 +60,28 @@ impl Letters {
         requires { length self.old + length bytes.now ≤ MOST_TEXT_BYTES }
         ensures { self.new ≡ self.old ++ bytes.now }
     {
-        match self.kept.try_extend_from_slice(bytes) {
-            Ok(()) => {}
-            Err(_) => unreachable!(),
-        }
+        let low = self.count;
+        let high = low + bytes.len();
+        self.bytes[low..high].copy_from_slice(bytes);
+        self.count = high;
+    }
+
+    /// The bytes from an offset on stay, at most so many.
+    pub fn keep_part(&mut self, from: usize, count: usize)
+        ensures { self.new ≡ take count (drop from self.old) }
+    {
+        let low = from.min(self.count);
+        let kept = count.min(self.count - low);
+        self.keep_within(low, kept);
+    }
+
+    /// So many bytes stay, from an offset on.
+    fn keep_within(&mut self, from: usize, count: usize)
+        requires { from + count ≤ length self.old }
+        ensures { self.new ≡ take count (drop from self.old) }
+    {
+        let _count = self.count;
+        self.bytes.copy_within(from..from + count, 0);
+        self.count = count;
     }
 }

@@ -1,10 +1,10 @@
 //! The stack of a task.
-ghost use Rattle.std.specs.Prelude.{◌≡◌, ◌+◌, ◌-◌, ◌<◌, ◌≤◌, ◌↔◌, List, ℕ, ℤ, [], ◌∷◌, ◌++◌, length, take, slice_get, slice_set, Some, None, IfOk, IfErr, IsErr, OnOk, OnErr};
+ghost use Rattle.std.specs.Prelude.{◌≡◌, ◌+◌, ◌-◌, ◌<◌, ◌≤◌, ◌↔◌, List, ℕ, ℤ, [], ◌∷◌, ◌++◌, length, take, drop, slice_get, slice_set, Some, None, IfOk, IfErr, IsErr, OnOk, OnErr};
 ghost use Rattle.ci_base.specs.declared.bounds.TheConstants.{MOST_ROOM, MOST_TEXT_BYTES};
 ghost use Rattle.ci_base.specs.declared.value.Value.{Value};
 ghost use Rattle.ci_base.specs.declared.value.Value.TheVariants.{Int, Str};
 ghost use Rattle.ci_stack.specs.Places.{IsNumberAt, IsTextAt};
-ghost use Rattle.ci_stack.specs.Tops.{EndsInNumber, SecondIsNumber, last_of, without_last};
+ghost use Rattle.ci_stack.specs.Tops.{EndsInNumber, SecondIsNumber, IsTextBelow, last_of, without_last};
 
 use crate::table::Table;
 use ci_base::bounds::MOST_ROOM;
@@ -183,6 +183,16 @@ impl TaskStack {
     {
         let place = self.count - taken;
         self.table.put_text(place, bytes);
+        self.count = place + 1;
+    }
+
+    /// So many values on top are taken off, and of the text below them the bytes from an offset on stay, at most so many.
+    pub fn keep_part(&mut self, above: usize, from: usize, count: usize)
+        requires { IsTextBelow self.old above }
+        ensures { (low high : List Value) (s : List ℕ) → self.old ≡ low ++ Str s ∷ high → length high ≡ above → self.new ≡ low ++ Str (take count (drop from s)) ∷ [] }
+    {
+        let place = self.count - above - 1;
+        self.table.keep_part(place, from, count);
         self.count = place + 1;
     }
 

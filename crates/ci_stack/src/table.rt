@@ -1,5 +1,5 @@
 //! The places of a stack.
-ghost use Rattle.std.specs.Prelude.{◌≡◌, ◌<◌, ◌≤◌, List, ℕ, ℤ, length, slice_get, slice_set, Some, IfOk};
+ghost use Rattle.std.specs.Prelude.{◌≡◌, ◌<◌, ◌≤◌, List, ℕ, ℤ, length, take, drop, slice_get, slice_set, Some, IfOk};
 ghost use Rattle.std.specs.Vec.{vec_capacity};
 ghost use Rattle.ci_base.specs.declared.bounds.TheConstants.{MOST_ROOM, MOST_TEXT_BYTES};
 ghost use Rattle.ci_base.specs.declared.value.Value.{Value};
@@ -98,6 +98,18 @@ impl Table {
         reach(&mut self.texts, place);
         self.words[place] = TEXT;
         self.texts[place].set(bytes);
+    }
+
+    /// Of the text at a place the bytes from an offset on stay, at most so many.
+    pub fn keep_part(&mut self, place: usize, from: usize, count: usize)
+        requires { IsTextAt self.old place }
+        ensures kept { (s : List ℕ) → slice_get self.old place ≡ Some (Str s) → self.new ≡ slice_set self.old place (Str (take count (drop from s))) }
+        ensures length { length self.new ≡ length self.old }
+    {
+        let _words = &self.words;
+        if place < self.texts.len() {
+            self.texts[place].keep_part(from, count);
+        }
     }
 
     /// The value at one place comes to another one too.

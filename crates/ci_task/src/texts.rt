@@ -1,5 +1,5 @@
 //! The instructions on texts that are met most: they read the texts where they stand.
-ghost use Rattle.std.specs.Prelude.{◌≡◌, ◌+◌, ◌≤◌, ◌++◌, length};
+ghost use Rattle.std.specs.Prelude.{◌≡◌, ◌+◌, ◌≤◌, List, ℕ, ◌++◌, length, take, drop};
 ghost use Rattle.ci_base.specs.TextFunctions as functions;
 ghost use Rattle.ci_base.specs.declared.bounds.TheConstants.{MOST_TEXT_BYTES};
 ghost use Rattle.ci_base.specs.declared.function.PrivateName.TheVariants as names;
@@ -14,7 +14,7 @@ use crate::went::Went;
 use arrayvec::ArrayVec;
 use ci_base::bounds::MOST_TEXT_BYTES;
 use ci_base::errors::TEXT_TOO_LONG;
-use ci_base::{Kind, Relation, Text, Value};
+use ci_base::{Kind, Relation};
 use ci_builtin::{relates, truth};
 use ci_code::RawParts;
 use ci_stack::TaskStack;
@@ -77,26 +77,18 @@ pub fn take_part(code: &RawParts, at: Active, stack: &mut TaskStack, heard: &Hea
     let count = stack.count();
     let last = count - 1;
     let second = count - 2;
-    let third = count - 3;
     let most = stack.number_at(last);
     let from = stack.number_at(second);
-    let text = stack.text_at(third);
-    let value = Value::Str(Text::of_few(part(text, from, most)));
-    stack.replace_by(3, &value);
+    let start = count_of(from);
+    let many = part_of(from, most);
+    stack.keep_part(2, start, many);
 }
 
-/// The bytes from an offset on, at most so many.
-fn part(bytes: &[u8], from: i32, most: i32) -> &[u8]
-    ensures value { result.now ≡ functions.mid bytes.now from most }
-    ensures within { length result.now ≤ length bytes.now }
+/// How many bytes a part asks for: none where its offset is negative.
+fn part_of(from: i32, most: i32) -> usize
+    ensures { (s : List ℕ) → take result (drop (functions.count_of from) s) ≡ functions.mid s from most }
 {
-    if from < 0 {
-        return &[];
-    }
-    let start = (from as usize).min(bytes.len());
-    let behind = &bytes[start..];
-    let end = count_of(most).min(behind.len());
-    &behind[..end]
+    if from < 0 { 0 } else { count_of(most) }
 }
 
 /// How many bytes an INT asks for: none where it is negative.

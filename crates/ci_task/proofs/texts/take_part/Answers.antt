@@ -1,4 +1,4 @@
-use Rattle.std.proofs.Common.{◌≡◌, ◌-◌, ◌+◌, ◌∷◌, ◌++◌, [], List, ℕ, ℤ, length, refl, sym, ap, ◌∙◌, arith, length-append, append_assoc, w32, to_z, of_z}
+use Rattle.std.proofs.Common.{◌≡◌, ◌-◌, ◌+◌, ◌∷◌, ◌++◌, [], List, ℕ, ℤ, length, take, drop, refl, sym, ap, ◌∙◌, arith, length-append, append_assoc, w32, to_z, of_z}
 use Rattle.ci_base.specs.TextFunctions.{mid}
 use Rattle.ci_base.specs.declared.value.Value.{Value}
 use Rattle.ci_base.specs.declared.value.Value.TheVariants.{Int, Str}
@@ -20,19 +20,21 @@ number_at-from-requires c =
     let long : length c.args.stack.now ≡ length f.0 + 3 = ap (λ (l : List Value). length l) f.4 ∙ length-append f.0 (Str f.1 ∷ Int f.2 ∷ Int f.3 ∷ []) in
     (f.2, at c.args.stack.now (f.0 ++ Str f.1 ∷ []) (Int f.3 ∷ []) (Int f.2) (c.count-count.result - 2) (f.4 ∙ sym (append_assoc f.0 (Str f.1 ∷ []) (Int f.2 ∷ Int f.3 ∷ []))) (omega (arith, c.count-count.ensures.value, long, length-append f.0 (Str f.1 ∷ []))))
 
-pub text_at-text-requires : goal.text_at-text-requires
-text_at-text-requires c =
+pub keep_part-requires : goal.keep_part-requires
+keep_part-requires c =
     let f = part_can c.args.code.now c.args.at c.args.stack.now c.args.heard.now c.requires.can in
-    let long : length c.args.stack.now ≡ length f.0 + 3 = ap (λ (l : List Value). length l) f.4 ∙ length-append f.0 (Str f.1 ∷ Int f.2 ∷ Int f.3 ∷ []) in
-    (f.1, at c.args.stack.now f.0 (Int f.2 ∷ Int f.3 ∷ []) (Str f.1) (c.count-count.result - 3) f.4 (omega (arith, c.count-count.ensures.value, long)))
+    (f.0, f.1, Int f.2 ∷ Int f.3 ∷ [], f.4, refl)
 
 pub returns : goal.returns
 returns c =
-    let part : c.of_few.result ≡ mid c.text_at-text.result.now c.number_at-from.result c.number_at-most.result =
-    c.of_few.ensures ∙ c.part.ensures.value
-    ∙ ap (λ (z : ℤ). mid c.text_at-text.result.now z (to_z w32 (of_z w32 c.number_at-most.result))) (trip c.number_at-from.result c.number_at-from.type_inv)
-    ∙ ap (λ (z : ℤ). mid c.text_at-text.result.now c.number_at-from.result z) (trip c.number_at-most.result c.number_at-most.type_inv) in
-    private_gives_value c.args.code.now names.StrMid c.args.at c.args.stack.now c.replace_by.new.self (Str c.text_at-text.result.now ∷ Int c.number_at-from.result ∷ Int c.number_at-most.result ∷ []) c.args.heard.now c.args.heard.now (Str (mid c.text_at-text.result.now c.number_at-from.result c.number_at-most.result))
-    (three_are c.args.stack.now (Str c.text_at-text.result.now) (Int c.number_at-from.result) (Int c.number_at-most.result) c.count-count.result c.count-count.ensures.value c.text_at-text.ensures.value c.number_at-from.ensures c.number_at-most.ensures)
-    refl refl
-    (λ low high split many. c.replace_by.ensures low high split many ∙ ap (λ (s : List ℕ). low ++ Str s ∷ []) part)
+    let f = part_can c.args.code.now c.args.at c.args.stack.now c.args.heard.now c.requires.can in
+    let long : length c.args.stack.now ≡ length f.0 + 3 = ap (λ (l : List Value). length l) f.4 ∙ length-append f.0 (Str f.1 ∷ Int f.2 ∷ Int f.3 ∷ []) in
+    let text = at c.args.stack.now f.0 (Int f.2 ∷ Int f.3 ∷ []) (Str f.1) (c.count-count.result - 3) f.4 (omega (arith, c.count-count.ensures.value, long)) in
+    let are = three_are c.args.stack.now (Str f.1) (Int c.number_at-from.result) (Int c.number_at-most.result) c.count-count.result c.count-count.ensures.value text c.number_at-from.ensures c.number_at-most.ensures in
+    let part : take c.part_of-many.result (drop c.count_of-start.result f.1) ≡ mid f.1 c.number_at-from.result c.number_at-most.result =
+    ap (λ i. take c.part_of-many.result (drop i f.1)) c.count_of-start.ensures ∙ c.part_of-many.ensures f.1
+    ∙ ap (λ (z : ℤ). mid f.1 z (to_z w32 (of_z w32 c.number_at-most.result))) (trip c.number_at-from.result c.number_at-from.type_inv)
+    ∙ ap (λ (z : ℤ). mid f.1 c.number_at-from.result z) (trip c.number_at-most.result c.number_at-most.type_inv) in
+    private_gives_value c.args.code.now names.StrMid c.args.at c.args.stack.now c.keep_part.new.self (Str f.1 ∷ Int c.number_at-from.result ∷ Int c.number_at-most.result ∷ []) c.args.heard.now c.args.heard.now (Str (mid f.1 c.number_at-from.result c.number_at-most.result))
+    are refl refl
+    (λ low high split many. c.keep_part.ensures low (Int c.number_at-from.result ∷ Int c.number_at-most.result ∷ []) f.1 (split ∙ ap (λ (l : List Value). low ++ l) (sym (are low high split many))) refl ∙ ap (λ (s : List ℕ). low ++ Str s ∷ []) part)
