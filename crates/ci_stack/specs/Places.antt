@@ -1,7 +1,7 @@
 -- How the values of a stack lie: a word at each place, and beside the words a table of texts.
-use Rattle.std.specs.Prelude.{◌≡◌, ◌==◌, ℕ, ◌<◌, ◌≤◌, ◌⊎◌, ℤ, pos, negsuc, if◌then◌else◌, List, [], ◌∷◌, length, All, Some, slice_get}
+use Rattle.std.specs.Prelude.{◌≡◌, ◌==◌, ℕ, ◌+◌, ◌<◌, ◌≤◌, ◌⊎◌, ℤ, pos, negsuc, if◌then◌else◌, List, [], ◌∷◌, length, All, Some, slice_get}
 use Rattle.std.specs.Int.Signed.{mag}
-use Rattle.ci_base.specs.declared.bounds.TheConstants.{MOST_ROOM}
+use Rattle.ci_base.specs.declared.bounds.TheConstants.{MOST_ROOM, MOST_TEXT_BYTES}
 use Rattle.ci_base.specs.declared.value.Value.{Value}
 use Rattle.ci_base.specs.declared.value.Value.TheVariants.{Int, Str}
 
@@ -36,3 +36,7 @@ IsNumberAt stack place = (n : ℤ) × (slice_get stack place ≡ Some (Int n))
 
 abbrev pub IsTextAt : List Value → ℕ → Type 0
 IsTextAt stack place = (s : List ℕ) × (slice_get stack place ≡ Some (Str s))
+
+-- texts stand at that place and behind it, and both together are no longer than a text may be
+abbrev pub JoinsNext : List Value → ℕ → Type 0
+JoinsNext stack place = (a : List ℕ) × (b : List ℕ) × (slice_get stack place ≡ Some (Str a)) × (slice_get stack (place + 1) ≡ Some (Str b)) × (length a + length b ≤ MOST_TEXT_BYTES)

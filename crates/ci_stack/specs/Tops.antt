@@ -1,5 +1,6 @@
 -- What stands on top of a stack.
-use Rattle.std.specs.Prelude.{◌≡◌, ℕ, ℤ, List, [], ◌∷◌, ◌++◌, length, Option, Some, None}
+use Rattle.std.specs.Prelude.{◌≡◌, ◌+◌, ◌≤◌, ℕ, ℤ, List, [], ◌∷◌, ◌++◌, length, Option, Some, None}
+use Rattle.ci_base.specs.declared.bounds.TheConstants.{MOST_TEXT_BYTES}
 use Rattle.ci_base.specs.declared.value.Value.{Value}
 use Rattle.ci_base.specs.declared.value.Value.TheVariants.{Int, Str}
 
@@ -24,3 +25,7 @@ SecondIsNumber stack = (low : List Value) × (n : ℤ) × (v : Value) × (stack 
 -- a text is below so many values on top
 abbrev pub IsTextBelow : List Value → ℕ → Type 0
 IsTextBelow stack above = (low : List Value) × (s : List ℕ) × (high : List Value) × (stack ≡ low ++ Str s ∷ high) × (length high ≡ above)
+
+-- two texts are on top, and both together are no longer than a text may be
+abbrev pub EndsInShortTexts : List Value → Type 0
+EndsInShortTexts stack = (low : List Value) × (a : List ℕ) × (b : List ℕ) × (stack ≡ low ++ Str a ∷ Str b ∷ []) × (length a + length b ≤ MOST_TEXT_BYTES)

@@ -4,7 +4,7 @@ ghost use Rattle.ci_base.specs.declared.bounds.TheConstants.{MOST_ROOM, MOST_TEX
 ghost use Rattle.ci_base.specs.declared.value.Value.{Value};
 ghost use Rattle.ci_base.specs.declared.value.Value.TheVariants.{Int, Str};
 ghost use Rattle.ci_stack.specs.Places.{IsNumberAt, IsTextAt};
-ghost use Rattle.ci_stack.specs.Tops.{EndsInNumber, SecondIsNumber, IsTextBelow, last_of, without_last};
+ghost use Rattle.ci_stack.specs.Tops.{EndsInNumber, EndsInShortTexts, SecondIsNumber, IsTextBelow, last_of, without_last};
 
 use crate::table::Table;
 use ci_base::bounds::MOST_ROOM;
@@ -193,6 +193,16 @@ impl TaskStack {
     {
         let place = self.count - above - 1;
         self.table.keep_part(place, from, count);
+        self.count = place + 1;
+    }
+
+    /// The text on top is taken off, and joined onto the one below.
+    pub fn join_last(&mut self)
+        requires { EndsInShortTexts self.old }
+        ensures { (low : List Value) (a b : List ℕ) → self.old ≡ low ++ Str a ∷ Str b ∷ [] → self.new ≡ low ++ Str (a ++ b) ∷ [] }
+    {
+        let place = self.count - 2;
+        self.table.join_next(place);
         self.count = place + 1;
     }
 

@@ -1,10 +1,10 @@
 //! The places of a stack.
-ghost use Rattle.std.specs.Prelude.{◌≡◌, ◌<◌, ◌≤◌, List, ℕ, ℤ, length, take, drop, slice_get, slice_set, Some, IfOk};
+ghost use Rattle.std.specs.Prelude.{◌≡◌, ◌+◌, ◌<◌, ◌≤◌, ◌++◌, List, ℕ, ℤ, [], length, take, drop, slice_get, slice_index_or, slice_set, Some, IfOk};
 ghost use Rattle.std.specs.Vec.{vec_capacity};
 ghost use Rattle.ci_base.specs.declared.bounds.TheConstants.{MOST_ROOM, MOST_TEXT_BYTES};
 ghost use Rattle.ci_base.specs.declared.value.Value.{Value};
 ghost use Rattle.ci_base.specs.declared.value.Value.TheVariants.{Int, Str};
-ghost use Rattle.ci_stack.specs.Places.{IsNumberAt, IsTextAt, values};
+ghost use Rattle.ci_stack.specs.Places.{IsNumberAt, IsTextAt, JoinsNext, values};
 
 use crate::letters::Letters;
 use ci_base::bounds::MOST_ROOM;
@@ -112,6 +112,19 @@ impl Table {
         }
     }
 
+    /// The text behind a place is joined onto the one there.
+    pub fn join_next(&mut self, place: usize)
+        requires { JoinsNext self.old place }
+        ensures joined { (a b : List ℕ) → slice_get self.old place ≡ Some (Str a) → slice_get self.old (place + 1) ≡ Some (Str b) → self.new ≡ slice_set self.old place (Str (a ++ b)) }
+        ensures length { length self.new ≡ length self.old }
+    {
+        let _words = &self.words;
+        let behind = place + 1;
+        if behind < self.texts.len() {
+            join_next(self.texts.as_mut_slice(), place);
+        }
+    }
+
     /// The value at one place comes to another one too.
     #[inline(always)]
     pub fn copy(&mut self, from: usize, to: usize)
@@ -135,8 +148,10 @@ impl Table {
         ensures copied { (s : List ℕ) → slice_get self.old from ≡ Some (Str s) → self.new ≡ slice_set self.old to (Str s) }
         ensures length { length self.new ≡ length self.old }
     {
-        let text = self.text_of(from);
-        self.put_text(to, text.bytes());
+        let _words = &self.words;
+        reach(&mut self.texts, from.max(to));
+        self.words[to] = TEXT;
+        copy_between(self.texts.as_mut_slice(), from, to);
     }
 
     /// The text at a place, as a value of its own.
@@ -186,5 +201,30 @@ fn reach(texts: &mut Vec<Letters>, place: usize)
             Ok(()) => {}
             Err(_) => unreachable!(),
         }
+    }
+}
+
+/// The text behind a place is joined onto the one there.
+fn join_next(texts: &mut [Letters], place: usize)
+    requires there { place + 1 < length texts.old }
+    requires short { length (slice_index_or texts.old place []) + length (slice_index_or texts.old (place + 1) []) ≤ MOST_TEXT_BYTES }
+    ensures { texts.new ≡ slice_set texts.old place (slice_index_or texts.old place [] ++ slice_index_or texts.old (place + 1) []) }
+{
+    let (low, high) = texts.split_at_mut(place + 1);
+    low[place].join(high[0].bytes());
+}
+
+/// The text at one place comes to another one too.
+fn copy_between(texts: &mut [Letters], from: usize, to: usize)
+    requires from { from < length texts.old }
+    requires to { to < length texts.old }
+    ensures { texts.new ≡ slice_set texts.old to (slice_index_or texts.old from []) }
+{
+    if from < to {
+        let (low, high) = texts.split_at_mut(to);
+        high[0].set(low[from].bytes());
+    } else if to < from {
+        let (low, high) = texts.split_at_mut(from);
+        low[to].set(high[0].bytes());
     }
 }

@@ -1,7 +1,6 @@
 //! The instructions on texts that are met most: they read the texts where they stand.
-ghost use Rattle.std.specs.Prelude.{◌≡◌, ◌+◌, ◌≤◌, List, ℕ, ◌++◌, length, take, drop};
+ghost use Rattle.std.specs.Prelude.{◌≡◌, List, ℕ, take, drop};
 ghost use Rattle.ci_base.specs.TextFunctions as functions;
-ghost use Rattle.ci_base.specs.declared.bounds.TheConstants.{MOST_TEXT_BYTES};
 ghost use Rattle.ci_base.specs.declared.function.PrivateName.TheVariants as names;
 ghost use Rattle.ci_code.specs.declared.instruction.Instruction.TheVariants as does;
 ghost use Rattle.ci_task.specs.declared.went.Went.TheVariants.{On};
@@ -11,7 +10,6 @@ use crate::active::Active;
 use crate::heard::Heard;
 use crate::outcomes::fail;
 use crate::went::Went;
-use arrayvec::ArrayVec;
 use ci_base::bounds::MOST_TEXT_BYTES;
 use ci_base::errors::TEXT_TOO_LONG;
 use ci_base::{Kind, Relation};
@@ -53,20 +51,8 @@ pub fn join(code: &RawParts, at: Active, stack: &mut TaskStack, heard: &mut Hear
     if first.len() + second.len() > MOST_TEXT_BYTES {
         return fail(2, Kind::Str, TEXT_TOO_LONG, stack, heard);
     }
-    let both = joined(first, second);
-    stack.replace_by_text(2, both.as_slice());
+    stack.join_last();
     Went::On
-}
-
-/// These bytes and those, one behind the other.
-fn joined(first: &[u8], second: &[u8]) -> ArrayVec<u8, MOST_TEXT_BYTES>
-    requires { length first.now + length second.now ≤ MOST_TEXT_BYTES }
-    ensures { result.items ≡ first.now ++ second.now }
-{
-    let mut both: ArrayVec<u8, MOST_TEXT_BYTES> = ArrayVec::new();
-    let _first_fits = both.try_extend_from_slice(first);
-    let _second_fits = both.try_extend_from_slice(second);
-    both
 }
 
 /// A text and two INTs give place to a part of the text.
