@@ -11,7 +11,7 @@ use Rattle.ci_outside.specs.Causes.{Rose}
 use Rattle.ci_outside.specs.Shelf.{Files, HasFile}
 use Rattle.ci_runtime.specs.Runs.{IsSerialRun}
 use Rattle.ci_script.specs.declared.fault.ScriptFault.{ScriptFault}
-use Rattle.ci_script.specs.Scripts.{Told, told, script_fault, events}
+use Rattle.ci_script.specs.Scripts.{Told, script_fault, events}
 use Rattle.ci_source.specs.declared.fault.Fault.{Fault}
 use Rattle.ci_source.specs.Compiling.{HasFirstFault, compiles}
 use Rattle.ci_source.specs.Laws.{HaveOneFirstFault, NeverBothMeanings, HaveOneProject}
@@ -23,11 +23,11 @@ use Rattle.ci_words.specs.declared.order.Order.{Order}
 use Rattle.ci_words.specs.Order.{Orders}
 use Rattle.ci_words.proofs.Answer.{one_answer}
 use Rattle.ci_world.specs.Laws.{OneSerial}
-use Rattle.ci_world.specs.Serial.{Progress, Serial, loose as loose_ticks}
+use Rattle.ci_world.specs.Serial.{Progress, loose as loose_ticks}
 use Rattle.ci_world.specs.World.{Origin}
 use Rattle.ci_top.specs.declared.decision.FileFault.{FileFault}
 use Rattle.ci_top.specs.declared.decision.FileFault.TheVariants as faults
-use Rattle.ci_top.specs.Answers.{Kept, Cause, words_refused, workers_refused, order_not_built, not_fetched, source_refused, script_refused, checked, listed, no_memory, ran, Holds, FaultHolds, Compiles, IsRun, IsRefused, IsScriptRefused, IsListed}
+use Rattle.ci_top.specs.Answers.{Kept, words_refused, workers_refused, order_not_built, not_fetched, source_refused, script_refused, checked, listed, no_memory, ran, FaultHolds, Compiles, IsRun, IsRefused, IsScriptRefused, IsListed}
 use Rattle.ci_top.specs.Asked.{wanted_of, wanted_sources, wanted_scripts, is_built, AskFor, AskForWorkers, AreRefused, AsksRun}
 use Rattle.ci_top.specs.Fetching.{Wanted, Fetched}
 use Rattle.ci_top.specs.OneCause.{OneCause, IsOneRun}

@@ -1,13 +1,10 @@
 -- The causes of decisions.
-use Rattle.std.proofs.Common.{◌≡◌, ℕ, ◌⊎◌, ◌∷◌, List, [], ◌++◌, length, Option, None, Some, refl, ◌∙◌, ap, sym, subst, inl, inr, map}
+use Rattle.std.proofs.Common.{◌≡◌, ℕ, ◌⊎◌, ◌∷◌, List, [], ◌++◌, length, Option, None, Some, refl, ◌∙◌, ap, sym, subst, inl, inr}
 use Rattle.std.proofs.lemmas.List.{length-map}
 use Rattle.ci_words.specs.Role.{word_at}
 use Rattle.ci_words.proofs.Ordered.{IsOrdered, ordered}
-use Rattle.ci_base.specs.declared.limits.Limits.{Limits}
 use Rattle.ci_outside.specs.Shelf.{Files}
-use Rattle.ci_runtime.specs.Runs.{IsRun}
 use Rattle.ci_runtime.specs.declared.ended.Ended.{Ended}
-use Rattle.ci_script.specs.Scripts.{events}
 use Rattle.ci_source.specs.Compiling.{compiles}
 use Rattle.ci_tree.specs.Bound.{Project}
 use Rattle.ci_tree.specs.SeenBound.{project_of}
@@ -15,14 +12,13 @@ use Rattle.ci_words.specs.declared.command.Command.{Command}
 use Rattle.ci_words.specs.declared.command.Command.TheVariants as commands
 use Rattle.ci_words.specs.declared.order.Order.{Order}
 use Rattle.ci_workload.specs.Workload.{workload_text}
-use Rattle.ci_world.specs.World.{Origin}
 use Rattle.ci_top.specs.declared.accept.Job.{Job}
 use Rattle.ci_top.specs.declared.accept.Job.TheVariants as jobs
 use Rattle.ci_top.specs.declared.decision.Decision.{Decision}
 use Rattle.ci_top.specs.declared.decision.Decision.TheVariants as decisions
 use Rattle.ci_top.specs.declared.decision.Made.{Made}
 use Rattle.ci_top.specs.Answers.{words_refused, workers_refused, order_not_built, not_fetched, source_refused, script_refused, checked, listed, no_memory, ran, told_text, words_text, file_text, run_text}
-use Rattle.ci_top.specs.Asked.{names_of, wanted_of, wanted_sources, wanted_scripts, AskFor, AreRefused, AsksJob, AsksRun, command_of}
+use Rattle.ci_top.specs.Asked.{names_of, wanted_of, wanted_sources, AskFor, AreRefused, AsksJob, AsksRun, command_of}
 use Rattle.ci_top.specs.Fetching.{Wanted, Fetched}
 use Rattle.ci_top.specs.Decisions.{Decided, RefusesWords, StopsFetching, IsFetched, IsReadBy, OfList, OfProject, OfRun, OfTexts, TellsSource, made_from, told_run}
 use Rattle.ci_top.specs.Reading.{Texts, HasAll, fetched_texts, made_texts, names_by, names_told, texts_by}

@@ -10,7 +10,7 @@ use Rattle.ci_outside.specs.Causes.{Rose}
 use Rattle.ci_outside.specs.Shelf.{Files, HasFile, LacksFile, HasLongFile}
 use Rattle.ci_outside.specs.declared.shelf.Fetch.{Fetch}
 use Rattle.ci_outside.specs.declared.shelf.Fetch.TheVariants as fetches
-use Rattle.ci_top.specs.Asked.{words_at, as_list, wanted_sources, wanted_scripts, wanted_of}
+use Rattle.ci_top.specs.Asked.{words_at, as_list, wanted_sources, wanted_of}
 use Rattle.ci_top.specs.Decisions.{StopsAt, StopsFetching, StopsScript, decision_of_fetch}
 use Rattle.ci_top.specs.Fetching.{Wanted, each_within, Fetched, IsNext}
 use Rattle.ci_base.specs.declared.bounds.TheConstants.{MOST_SCRIPT_BYTES}

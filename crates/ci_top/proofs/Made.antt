@@ -1,5 +1,5 @@
 -- A workload is made of no files.
-use Rattle.std.proofs.Common.{◌≡◌, ℕ, ap, Option, None, Ok, List, []}
+use Rattle.std.proofs.Common.{◌≡◌, ℕ, ap, Option, Ok, List, []}
 use Rattle.ci_base.specs.declared.bounds.TheConstants.{MOST_SCRIPT_BYTES, MOST_SOURCE_BYTES}
 use Rattle.ci_words.specs.declared.command.Command.TheVariants as commands
 use Rattle.ci_words.specs.declared.order.Order.{Order}

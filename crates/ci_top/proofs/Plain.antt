@@ -1,5 +1,5 @@
 -- The plain clauses of the top call follow from its contract.
-use Rattle.std.proofs.Common.{◌≡◌, ℕ, ◌-◌, ◌≤◌, false, true, List, ◌∷◌, ◌++◌, [], Option, None, Some, refl, sym, ◌∙◌, ap, subst, arith, ◌⊎◌, inl, inr}
+use Rattle.std.proofs.Common.{◌≡◌, ℕ, ◌-◌, ◌≤◌, true, List, ◌∷◌, ◌++◌, [], Option, None, Some, refl, sym, ◌∙◌, ap, subst, arith, ◌⊎◌, inl, inr}
 use Rattle.std.specs.Io.KnownBytes.{Appends}
 use Rattle.ci_base.specs.declared.limits.Ending.{Ending}
 use Rattle.ci_base.specs.declared.limits.Ending.TheVariants as endings
@@ -9,19 +9,18 @@ use Rattle.ci_base.specs.declared.event.Event.{Event}
 use Rattle.ci_script.specs.Scripts.{events, script_fault}
 use Rattle.ci_source.specs.Compiling.{HasFirstFault}
 use Rattle.ci_source.specs.Laws.{NeverBothMeanings}
-use Rattle.ci_tree.specs.Bound.{Project}
 use Rattle.ci_words.specs.declared.command.Command.{Command}
 use Rattle.ci_words.specs.declared.command.Command.TheVariants as commands
 use Rattle.ci_words.specs.declared.order.Order.{Order}
 use Rattle.ci_words.proofs.Ordered.{IsOrdered, ordered, check_alone, list_alone}
-use Rattle.ci_world.specs.Work.{work, Ends, EndsAs, IsFinished}
-use Rattle.ci_world.specs.World.{Common, World, Origin}
+use Rattle.ci_world.specs.Work.{work, EndsAs, IsFinished}
+use Rattle.ci_world.specs.World.{Common, Origin}
 use Rattle.ci_top.specs.declared.decision.FileFault.TheVariants as faults
 use Rattle.ci_top.specs.declared.outcome.Outcome.{Outcome}
-use Rattle.ci_top.specs.Answers.{Answers, Kept, nothing_kept, kept_of, Cause, words_refused, workers_refused, order_not_built, not_fetched, source_refused, script_refused, checked, listed, no_memory, ran, Holds, Compiles, IsChecked, IsListed, IsRun, status_of, text_of, ending_status, Delivers}
+use Rattle.ci_top.specs.Answers.{Answers, Kept, nothing_kept, kept_of, Cause, words_refused, workers_refused, order_not_built, not_fetched, source_refused, script_refused, checked, listed, no_memory, ran, Holds, Compiles, IsRun, status_of, text_of, ending_status, Delivers}
 use Rattle.ci_top.specs.Asked.{command_of, wanted_of, wanted_sources, wanted_scripts, is_built_of, AskFor, AreRefused, AsksRun}
 use Rattle.ci_top.specs.Fetching.{Fetched, Wanted}
-use Rattle.ci_top.specs.Plain.{AreThere, CanCheck, CanList, CanMake, CanRunAll, IsApproved, IsAtRest, IsReported, IsRunOf, IsShown, IsSpent, IsRunStatus, KeepsNothing}
+use Rattle.ci_top.specs.Plain.{AreThere, CanCheck, CanList, CanMake, CanRunAll, IsApproved, IsAtRest, IsReported, IsShown, IsSpent, IsRunStatus, KeepsNothing}
 use Rattle.ci_top.specs.Reading.{Texts, ComesTo, HasAll, fetched_texts, made_texts, texts_by}
 use Rattle.ci_top.proofs.Causes.{refused-not_asked, refused-not_compiled, script_clash, told_clash, not_all, command_clash, runs_clash, differs, check-not_list, run-not_make, IsRunning, running, one_order}
 use Rattle.ci_top.proofs.Made.{makes-no_sources, makes-no_scripts}

@@ -30,7 +30,7 @@ use Rattle.ci_top.specs.declared.decision.Decision.{Decision}
 use Rattle.ci_top.specs.declared.decision.Decision.TheVariants as decisions
 use Rattle.ci_top.specs.declared.decision.FileFault.TheVariants as faults
 use Rattle.ci_top.specs.declared.decision.Made.{Made}
-use Rattle.ci_top.specs.Answers.{Kept, nothing_kept, Cause, words_refused, order_not_built, script_refused, checked, listed, no_memory, Holds, FaultHolds, Compiles, status_of, text_of, told_text, file_text, made_text, out_of_range, ending_status, fault_status}
+use Rattle.ci_top.specs.Answers.{Kept, nothing_kept, Cause, words_refused, order_not_built, script_refused, checked, listed, no_memory, Holds, FaultHolds, status_of, text_of, told_text, file_text, made_text, out_of_range, ending_status, fault_status}
 use Rattle.ci_top.specs.Asked.{AskForWorkers, AskForUnbuilt, wanted_sources, wanted_scripts}
 use Rattle.ci_top.specs.Fetching.{Wanted, Fetched, IsNext}
 use Rattle.ci_top.specs.Reading.{Texts, fetched_texts, made_texts}

@@ -1,12 +1,11 @@
 -- What the contract of the top call says in the main, for its reader.
-use Rattle.std.specs.Prelude.{◌≡◌, ℕ, ◌-◌, ◌≤◌, List, [], ◌∷◌, ◌++◌, codes, length, Option, Some, None, Ok, ◌⊎◌}
+use Rattle.std.specs.Prelude.{◌≡◌, ℕ, ◌-◌, ◌≤◌, List, [], ◌∷◌, codes, Option, Some, Ok, ◌⊎◌}
 use Rattle.std.specs.Io.KnownBytes.{Appends}
 use Rattle.ci_base.specs.declared.event.Event.{Event}
 use Rattle.ci_base.specs.declared.limits.Ending.TheVariants as endings
 use Rattle.ci_outside.specs.Shelf.{Files}
 use Rattle.ci_runtime.specs.EndStates.{end_state}
 use Rattle.ci_script.specs.Scripts.{events}
-use Rattle.ci_source.specs.Compiling.{compiles}
 use Rattle.ci_words.specs.declared.command.Command.TheVariants as commands
 use Rattle.ci_words.specs.declared.order.Order.{Order}
 use Rattle.ci_words.specs.Order.{Orders}
