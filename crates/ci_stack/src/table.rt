@@ -142,6 +142,8 @@ impl Table {
     }
 
     /// The text at one place comes to another one too.
+    #[cold]
+    #[inline(never)]
     fn copy_text(&mut self, from: usize, to: usize)
         requires from { IsTextAt self.old from }
         requires to { to < length self.old }

@@ -37,3 +37,7 @@ heard_leads code what w a to callers values values' heard heard' went e can did 
 
 pub does_heard : (code : RawParts) (w : Instruction) (a : Active) (values values' : List Value) (heard : Heard) → Does code w a values (after went.On a) values' → DoesHeard code w a values heard went.On values' heard
 does_heard code w a values values' heard did = λ callers s room. did callers heard s room
+
+-- by what the instruction came to
+pub leads_by : (code : RawParts) (what : Instruction) (a to : Active) (callers callers' : List Active) (values values' : List Value) (heard heard' : Heard) (w v : Went) → w ≡ v → Leads code what a callers values heard v to callers' values' heard' → Leads code what a callers values heard w to callers' values' heard'
+leads_by code what a to callers callers' values values' heard heard' w v e leads = subst (λ (x : Went). Leads code what a callers values heard x to callers' values' heard') (sym e) leads

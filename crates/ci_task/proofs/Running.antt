@@ -1,5 +1,5 @@
 -- Runs grow at their end, and what is left falls between ticks.
-use Rattle.std.proofs.Common.{◌≡◌, ℕ, zero, suc, ◌+◌, ◌*◌, ◌<◌, ◌≤◌, ⊎_elim, min, Bool, true, false, cond, List, [], ◌∷◌, length, take, Option, Some, None, refl, sym, ap, ◌∙◌, subst, arith}
+use Rattle.std.proofs.Common.{◌≡◌, ℕ, zero, suc, ◌+◌, ◌-◌, ◌*◌, ◌<◌, ◌≤◌, ⊎_elim, min, Bool, true, false, cond, List, [], ◌∷◌, length, take, Option, Some, None, refl, sym, ap, ◌∙◌, subst, arith}
 use Rattle.std.specs.Prelude.{slice_get, All}
 use Rattle.std.proofs.lemmas.Option.{slice_get_within, get_or_from_slice_get}
 use Rattle.std.proofs.lemmas.List.Elements.{All-get_or}
@@ -9,6 +9,7 @@ use Rattle.ci_base.specs.declared.value.Value.{Value}
 use Rattle.ci_base.specs.Steps.{Next, tick, quiet, asks, stuck, After, Steps}
 use Rattle.ci_code.specs.declared.instruction.Instruction.{Instruction}
 use Rattle.ci_code.specs.declared.instruction.Instruction.TheVariants as does
+use Rattle.ci_code.specs.declared.instruction.Step.{Step}
 use Rattle.ci_code.specs.declared.raw.RawFunction.{RawFunction}
 use Rattle.ci_code.specs.declared.raw.RawParts.{RawParts}
 use Rattle.ci_code.specs.Code.{IsCode, IsFunctionCounted}
@@ -23,6 +24,7 @@ use Rattle.ci_task.specs.declared.active.Active.{Active}
 use Rattle.ci_task.specs.declared.heard.Heard.{Heard}
 use Rattle.ci_task.specs.declared.went.Went.TheVariants as went
 use Rattle.ci_task.specs.Spelled.{frames_of, spelled, AreStacked}
+use Rattle.ci_task.specs.Courses.{at_place}
 use Rattle.ci_task.specs.Going.{HasRoom, next_place, CanNow, Leads}
 use Rattle.ci_task.specs.Running.{Holds, StandsAsking, Runs, most_counted}
 use Rattle.ci_task.proofs.Operands.{rooms_frames}
@@ -274,3 +276,65 @@ found_at code a callers values heard function what here e = ap (λ (o : Option R
 
 pub same_function : (f g : RawFunction) → Some f ≡ Some g → f ≡ g
 same_function f g h = cc h
+
+-- What the loop keeps
+
+-- the run came to a place of a function, with nothing but instructions one behind the other since it landed there
+pub record Loop (code : RawParts) (start : Machine) (before ticks : ℕ) (landed : Active) (place : ℕ) (callers : List Active) (values : List Value) (heard : Heard) (used count : ℕ) (function : RawFunction) (steps : List Step) : Type 0 where
+  pub kept : Kept code start before ticks (at_place place landed) callers values heard used (count + (place - landed.place))
+  pub here : slice_get code.functions landed.function ≡ Some function
+  pub steps_are : steps ≡ function.steps
+  pub behind : landed.place ≤ place
+
+-- it has just landed
+pub loop_landed : (code : RawParts) (start : Machine) (before ticks : ℕ) (a : Active) (callers : List Active) (values : List Value) (heard : Heard) (used count : ℕ) (function : RawFunction) (steps : List Step) → Kept code start before ticks a callers values heard used count → slice_get code.functions a.function ≡ Some function → steps ≡ function.steps → Loop code start before ticks a a.place callers values heard used count function steps
+loop_landed code start before ticks a callers values heard used count function steps k here same = record {
+  kept = subst (λ n. Kept code start before ticks a callers values heard used n) (none count a.place) k;
+  here = here;
+  steps_are = same;
+  behind = omega arith;
+}
+  where
+    none : (n p : ℕ) → n ≡ n + (p - p)
+    none n p = omega arith
+
+-- where the run stands
+pub loop_kept : (code : RawParts) (start : Machine) (before ticks : ℕ) (landed at : Active) (place : ℕ) (callers : List Active) (values : List Value) (heard : Heard) (used count : ℕ) (function : RawFunction) (steps : List Step) → at ≡ at_place place landed → Loop code start before ticks landed place callers values heard used count function steps → Kept code start before ticks at callers values heard used (count + (place - landed.place))
+loop_kept code start before ticks landed at place callers values heard used count function steps e l = subst (λ (a : Active). Kept code start before ticks a callers values heard used (count + (place - landed.place))) (sym e) l.kept
+
+pub loop_here : (code : RawParts) (start : Machine) (before ticks : ℕ) (landed at : Active) (place : ℕ) (callers : List Active) (values : List Value) (heard : Heard) (used count : ℕ) (function : RawFunction) (steps : List Step) → at ≡ at_place place landed → Loop code start before ticks landed place callers values heard used count function steps → slice_get code.functions at.function ≡ Some function
+loop_here code start before ticks landed at place callers values heard used count function steps e l = ap (λ (a : Active). slice_get code.functions a.function) e ∙ l.here
+
+-- the place is among the steps, which are few
+pub loop_within : (code : RawParts) (start : Machine) (before ticks : ℕ) (landed : Active) (place : ℕ) (callers : List Active) (values : List Value) (heard : Heard) (used count : ℕ) (function : RawFunction) (steps : List Step) → IsCode code → Loop code start before ticks landed place callers values heard used count function steps → (place < length function.steps) × (length function.steps ≤ 4294967295) × (place < length steps)
+loop_within code start before ticks landed place callers values heard used count function steps is l =
+    let t = stands_in code (at_place place landed) callers values heard is l.kept.holds in
+    let same : length t.0.steps ≡ length function.steps = ap (λ (f : RawFunction). length f.steps) (same_function t.0 function (sym t.1 ∙ l.here)) in
+    (omega (arith, t.2, same), omega (arith, t.3, same), omega (arith, t.2, same, ap (λ (s : List Step). length s) l.steps_are))
+
+pub loop_found : (code : RawParts) (start : Machine) (before ticks : ℕ) (landed at : Active) (place : ℕ) (callers : List Active) (values : List Value) (heard : Heard) (used count : ℕ) (function : RawFunction) (steps : List Step) (what : Instruction) → at ≡ at_place place landed → Loop code start before ticks landed place callers values heard used count function steps → ((f : RawFunction) → steps ≡ f.steps → instruction_in (Some f) place ≡ Some what) → instruction_at code (spelled code at callers values heard) ≡ Some what
+loop_found code start before ticks landed at place callers values heard used count function steps what e l there =
+    ap (λ (a : Active). instruction_at code (spelled code a callers values heard)) e ∙ found_at code (at_place place landed) callers values heard function what l.here (there function l.steps_are)
+
+-- the next instruction comes
+pub loop_next : (code : RawParts) (start : Machine) (before ticks : ℕ) (landed at : Active) (place : ℕ) (callers callers' : List Active) (values values' : List Value) (heard heard' : Heard) (used count : ℕ) (function : RawFunction) (steps : List Step) (what : Instruction) → IsCode code → NoneBroken code → at ≡ at_place place landed → Loop code start before ticks landed place callers values heard used count function steps → instruction_at code (spelled code at callers values heard) ≡ Some what → Leads code what at callers values heard went.On (next_place at) callers' values' heard' → Loop code start before ticks landed (place + 1) callers' values' heard' used count function steps
+loop_next code start before ticks landed at place callers callers' values values' heard heard' used count function steps what is none e l found leads =
+    let k : Kept code start before ticks (next_place at) callers' values' heard' used (count + (place - landed.place) + 1) =
+    kept_on code start before ticks at (next_place at) callers callers' values values' heard heard' used (count + (place - landed.place)) what is none (loop_kept code start before ticks landed at place callers values heard used count function steps e l) found leads in
+    record {
+      kept = subst (λ n. Kept code start before ticks (at_place (place + 1) landed) callers' values' heard' used n) (one_behind count place landed.place l.behind)
+          (subst (λ (a : Active). Kept code start before ticks (next_place a) callers' values' heard' used (count + (place - landed.place) + 1)) e k);
+      here = l.here;
+      steps_are = l.steps_are;
+      behind = omega (arith, l.behind);
+    }
+  where
+    one_behind : (n p q : ℕ) → q ≤ p → n + (p - q) + 1 ≡ n + (p + 1 - q)
+    one_behind n p q h = omega (arith, h)
+
+-- the run lands elsewhere
+pub loop_lands : (code : RawParts) (start : Machine) (before ticks : ℕ) (landed at to : Active) (place : ℕ) (callers callers' : List Active) (values values' : List Value) (heard heard' : Heard) (used count : ℕ) (function f : RawFunction) (steps s : List Step) (what : Instruction) → IsCode code → NoneBroken code → at ≡ at_place place landed → Loop code start before ticks landed place callers values heard used count function steps → instruction_at code (spelled code at callers values heard) ≡ Some what → Leads code what at callers values heard went.On to callers' values' heard' → slice_get code.functions to.function ≡ Some f → s ≡ f.steps → Loop code start before ticks to to.place callers' values' heard' used (count + (place - landed.place) + 1) f s
+loop_lands code start before ticks landed at to place callers callers' values values' heard heard' used count function f steps s what is none e l found leads there same =
+    loop_landed code start before ticks to callers' values' heard' used (count + (place - landed.place) + 1) f s
+    (kept_on code start before ticks at to callers callers' values values' heard heard' used (count + (place - landed.place)) what is none (loop_kept code start before ticks landed at place callers values heard used count function steps e l) found leads)
+    there same

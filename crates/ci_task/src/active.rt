@@ -1,8 +1,7 @@
 //! The active functions of a task.
 ghost use Rattle.std.specs.Prelude.{◌≡◌, ◌+◌, ◌<◌, ◌^◌};
-ghost use Rattle.ci_task.specs.Going.{after, next_place};
-
-use crate::went::Went;
+ghost use Rattle.ci_task.specs.Courses.{at_place};
+ghost use Rattle.ci_task.specs.Going.{next_place};
 
 /// A function that runs, or waits for the one above it.
 #[derive(Clone, Copy, Debug)]
@@ -32,17 +31,16 @@ impl Active {
         }
     }
 
-    /// The same behind an instruction: at the next place, if it was done.
+    /// The same at another place.
     #[inline(always)]
-    pub fn after(self, went: Went) -> Active
-        requires { self.place + 1 < 2 ^ 32 }
-        ensures { result ≡ after went self }
+    pub fn at_place(self, place: u32) -> Active
+        ensures { result ≡ at_place place self }
     {
-        match went {
-            Went::On => self.next(),
-            Went::Tick => self,
-            Went::Ends(_) => self,
-            Went::Asks => self,
+        Active {
+            function: self.function,
+            place,
+            base: self.base,
+            rooms: self.rooms,
         }
     }
 }

@@ -9,11 +9,12 @@ ghost use Rattle.ci_code.specs.Code.{IsCode};
 ghost use Rattle.ci_code.specs.Machine.{given};
 ghost use Rattle.ci_code.specs.Moves.{parameters_of};
 ghost use Rattle.ci_verify.specs.Rules.{NoneBroken};
+ghost use Rattle.ci_task.specs.Courses.{went_by, led_to};
 ghost use Rattle.ci_task.specs.Going.{CanNow, Leads};
 
 use crate::active::Active;
+use crate::course::Course;
 use crate::heard::Heard;
-use crate::went::Went;
 use ci_base::bounds::MOST_ROOM;
 use ci_base::errors::CALL_DEPTH;
 use ci_base::{Kind, Text, Value};
@@ -80,20 +81,20 @@ pub fn call(
     callers: &mut Vec<Active>,
     stack: &mut TaskStack,
     heard: &Heard,
-) -> (Went, Active)
+) -> Course
     requires can { CanNow code.now (does.Call number) at (reverse callers.old.items) stack.old heard.now }
     requires code { IsCode code.now }
     requires sound { NoneBroken code.now }
     requires place { at.place + 1 < 2 ^ 32 }
     requires few { at.rooms ≤ MOST_ROOM }
     requires capacity { MOST_ROOM ≤ vec_capacity callers.old }
-    ensures leads { Leads code.now (does.Call number) at (reverse callers.old.items) stack.old heard.now result.0 result.1 (reverse callers.new.items) stack.new heard.now }
+    ensures leads { Leads code.now (does.Call number) at (reverse callers.old.items) stack.old heard.now (went_by result) (led_to at result) (reverse callers.new.items) stack.new heard.now }
     ensures capacity { MOST_ROOM ≤ vec_capacity callers.new }
 {
     let function = function_at(code, number);
     let rooms = function.room as usize + at.rooms as usize;
     if rooms > MOST_ROOM {
-        return (Went::Ends(CALL_DEPTH), at);
+        return Course::Ends(CALL_DEPTH);
     }
     let taken = parameters(code, number);
     match callers.push(at.next()) {
@@ -102,13 +103,12 @@ pub fn call(
     }
     let base = stack.count() - taken;
     push_firsts(kinds_from(function.locals.members(), taken), stack);
-    let entered = Active {
+    Course::To(Active {
         function: number,
         place: 0,
         base: base as u32,
         rooms: at.rooms + function.room,
-    };
-    (Went::On, entered)
+    })
 }
 
 /// The function gives the value on top to the one that waits for it; the first one ends the task.
@@ -120,18 +120,18 @@ pub fn give(
     callers: &mut Vec<Active>,
     stack: &mut TaskStack,
     heard: &Heard,
-) -> (Went, Active)
+) -> Course
     requires can { CanNow code.now does.Return at (reverse callers.old.items) stack.old heard.now }
     requires here { slice_get code.now.functions at.function ≡ Some function.now }
     requires capacity { MOST_ROOM ≤ vec_capacity callers.old }
-    ensures leads { Leads code.now does.Return at (reverse callers.old.items) stack.old heard.now result.0 result.1 (reverse callers.new.items) stack.new heard.now }
+    ensures leads { Leads code.now does.Return at (reverse callers.old.items) stack.old heard.now (went_by result) (led_to at result) (reverse callers.new.items) stack.new heard.now }
     ensures capacity { MOST_ROOM ≤ vec_capacity callers.new }
 {
     match callers.pop() {
-        None => (Went::Ends(0), at),
+        None => Course::Ends(0),
         Some(waiting) => {
             hand_over(function, at.base as usize, stack);
-            (Went::On, waiting)
+            Course::To(waiting)
         }
     }
 }

@@ -7,8 +7,11 @@ ghost use Rattle.ci_code.specs.declared.instruction.Instruction.TheVariants as d
 ghost use Rattle.ci_task.specs.Going.{next_place, Can, Does, CanHeard, DoesHeard};
 ghost use Rattle.ci_task.specs.Operators.{is_whole};
 ghost use Rattle.ci_task.specs.Operators as operators;
+ghost use Rattle.ci_task.specs.Courses.{went_by, led_to};
+ghost use Rattle.ci_task.specs.declared.went.Went.TheVariants as went;
 
 use crate::active::Active;
+use crate::course::Course;
 use crate::heard::Heard;
 use crate::rare::rare_at;
 use crate::relations::compared;
@@ -149,35 +152,17 @@ pub fn drop_last(code: &RawParts, at: Active, stack: &mut TaskStack)
     stack.take_off(1);
 }
 
-/// The function goes on at another place.
-#[inline(always)]
-pub fn jump(code: &RawParts, to: u32, at: Active, stack: &TaskStack) -> Active
-    ensures { Does code.now (does.Jump to) at stack.now result stack.now }
-{
-    Active {
-        function: at.function,
-        place: to,
-        base: at.base,
-        rooms: at.rooms,
-    }
-}
-
 /// The INT on top is taken off; where it is 0 the function goes on at another place.
 #[inline(always)]
-pub fn branch(code: &RawParts, to: u32, at: Active, stack: &mut TaskStack) -> Active
-    requires can { Can code.now (does.JumpIfZero to) at stack.old }
-    requires place { at.place + 1 < 2 ^ 32 }
-    ensures { Does code.now (does.JumpIfZero to) at stack.old result stack.new }
+pub fn branch(code: &RawParts, to: u32, at: Active, stack: &mut TaskStack) -> Course
+    requires { Can code.now (does.JumpIfZero to) at stack.old }
+    ensures goes_on { went_by result ≡ went.On }
+    ensures does { Does code.now (does.JumpIfZero to) at stack.old (led_to at result) stack.new }
 {
     let n = stack.last_number();
     stack.take_off(1);
     if n == 0 {
-        return Active {
-            function: at.function,
-            place: to,
-            base: at.base,
-            rooms: at.rooms,
-        };
+        return Course::Jump(to);
     }
-    at.next()
+    Course::Next
 }

@@ -6,6 +6,7 @@ mod active;
 mod arrays;
 mod behind;
 mod calls;
+mod course;
 mod heard;
 mod hot;
 pub mod laws;

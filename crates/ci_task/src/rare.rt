@@ -141,6 +141,7 @@ fn plain(
 ///
 /// What runs is handed over in parts, and not as an instruction and an active function: those would be passed by their places,
 /// so they would have to be written there ahead of every instruction, whichever it is.
+#[cold]
 #[inline(never)]
 pub fn rare_at(
     code: &RawParts,

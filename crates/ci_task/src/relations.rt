@@ -1,12 +1,12 @@
 //! Comparisons of INTs, without a jump.
 ghost use Rattle.std.specs.Prelude.{◌≡◌};
+ghost use Rattle.std.specs.Ordering.{int_cmp};
 ghost use Rattle.ci_base.specs.Comparisons as comparisons;
 ghost use Rattle.ci_base.specs.Values as values;
 ghost use Rattle.ci_base.specs.declared.value.Value.TheVariants.{Int};
 ghost use Rattle.ci_task.specs.Orders as relations;
 
 use ci_base::Relation;
-use std::cmp::Ordering;
 
 /// The orders for which the relation holds, as bits.
 #[inline(always)]
@@ -23,15 +23,17 @@ fn orders_of(relation: Relation) -> u32
     }
 }
 
-/// The bit of an order.
+/// The bit of the order in which two INTs stand.
 #[inline(always)]
-fn bit_of(order: Ordering) -> u32
-    ensures { result ≡ relations.bit_of order }
+fn bit_between(a: i32, b: i32) -> u32
+    ensures { result ≡ relations.bit_of (int_cmp a b) }
 {
-    match order {
-        Ordering::Less => 1,
-        Ordering::Equal => 2,
-        Ordering::Greater => 4,
+    if a < b {
+        1
+    } else if b < a {
+        4
+    } else {
+        2
     }
 }
 
@@ -41,6 +43,6 @@ fn bit_of(order: Ordering) -> u32
 pub fn compared(relation: Relation, a: i32, b: i32) -> i32
     ensures { result ≡ values.truth (comparisons.holds relation (Int a) (Int b)) }
 {
-    let common = orders_of(relation) & bit_of(a.cmp(&b));
+    let common = orders_of(relation) & bit_between(a, b);
     if common == 0 { 0 } else { 1 }
 }

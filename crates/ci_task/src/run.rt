@@ -1,7 +1,8 @@
 //! A run up to a request, or to the end of its ticks.
-ghost use Rattle.std.specs.Prelude.{◌≡◌, ◌≤◌, ◌<◌, reverse, slice_get, Some, length, min};
+ghost use Rattle.std.specs.Prelude.{◌≡◌, ◌-◌, ◌≤◌, ◌<◌, reverse, slice_get, Some, length, min};
 ghost use Rattle.std.specs.Vec.{vec_capacity};
 ghost use Rattle.ci_base.specs.declared.bounds.TheConstants.{MOST_ROOM};
+ghost use Rattle.ci_code.specs.declared.raw.RawFunction.{RawFunction as Counted};
 ghost use Rattle.ci_code.specs.Code.{IsCode};
 ghost use Rattle.ci_code.specs.Machine.{instruction_in};
 ghost use Rattle.ci_verify.specs.Rules.{NoneBroken};
@@ -11,9 +12,10 @@ ghost use Rattle.ci_task.specs.Running.{Holds, Runs, Stops, most_counted};
 use crate::act::act;
 use crate::active::Active;
 use crate::calls::function_at;
+use crate::course::Course;
 use crate::heard::Heard;
 use crate::went::Went;
-use ci_code::{Instruction, RawFunction, RawParts};
+use ci_code::{Instruction, RawFunction, RawParts, Step};
 use ci_stack::TaskStack;
 
 /// What the count of instructions stops at.
@@ -54,23 +56,23 @@ fn capped(count: u64) -> u64
     }
 }
 
-/// The function in which the run goes on, which mostly is the one that it was in.
+/// The instruction at a place.
 #[inline(always)]
-fn running<'a>(
-    code: &'a RawParts,
-    function: &'a RawFunction,
-    at: Active,
-    to: Active,
-) -> &'a RawFunction
-    requires here { slice_get code.now.functions at.function ≡ Some function.now }
-    requires there { to.function < length code.now.functions }
-    ensures { slice_get code.now.functions to.function ≡ Some result.now }
+fn instruction_among(steps: &[Step], place: usize) -> &Instruction
+    requires { place < length steps.now }
+    ensures { (function : Counted) → steps.now ≡ function.steps → instruction_in (Some function) place ≡ Some result.now }
 {
-    if to.function == at.function {
-        function
-    } else {
-        function_at(code, to.function)
-    }
+    let step = &steps[place];
+    &step.what
+}
+
+/// How many instructions were run from one place to another, none of which jumps.
+#[inline(always)]
+fn passed(from: Active, to: Active) -> u64
+    requires { from.place ≤ to.place }
+    ensures { result ≡ to.place - from.place }
+{
+    (to.place - from.place) as u64
 }
 
 /// The run stops there.
@@ -88,6 +90,9 @@ fn stopped(at: Active, used: u32, count: u64, went: Went) -> Stop
 
 /// The code is run until a request is met, or the ticks are used and a tick comes next; the count of instructions goes on from
 /// `before`.
+///
+/// Of instructions one behind the other none is counted by itself: the run keeps the place where it last landed by a jump, a
+/// call, a return or a tick.
 pub fn go(
     code: &RawParts,
     from: Active,
@@ -108,29 +113,45 @@ pub fn go(
     ensures used { result.used ≤ ticks }
     ensures capacity { MOST_ROOM ≤ vec_capacity callers.new }
 {
-    let mut at = from;
+    let mut landed = from;
     let mut function = function_at(code, from.function);
+    let mut steps = function.steps.members();
+    let mut place = from.place as usize;
     let mut used = 0u32;
     let mut count = before;
     'run: loop {
-        let what = instruction_of(function, at.place);
-        let (went, to) = act(code, function, what, at, callers, stack, heard);
-        match went {
-            Went::On => {
-                function = running(code, function, at, to);
-                at = to;
-                count += 1;
+        let at = landed.at_place(place as u32);
+        let what = instruction_among(steps, place);
+        match act(code, function, what, at, callers, stack, heard) {
+            Course::Next => place += 1,
+            Course::Jump(to) => {
+                count += passed(landed, at) + 1;
+                landed = at.at_place(to);
+                place = to as usize;
             }
-            Went::Tick => {
+            Course::To(to) => {
+                count += passed(landed, at) + 1;
+                landed = to;
+                function = function_at(code, to.function);
+                steps = function.steps.members();
+                place = to.place as usize;
+            }
+            Course::Tick => {
+                count += passed(landed, at);
                 if used == ticks {
-                    return stopped(to, used, count, went);
+                    return stopped(at, used, count, Went::Tick);
                 }
                 used += 1;
-                at = to.next();
                 count = capped(count) + 1;
+                landed = at.next();
+                place += 1;
             }
-            Went::Ends(_) => return stopped(to, used, count, went),
-            Went::Asks => return stopped(to, used, count, went),
+            Course::Ends(code) => {
+                return stopped(at, used, count + passed(landed, at), Went::Ends(code));
+            }
+            Course::Asks => {
+                return stopped(at, used, count + passed(landed, at), Went::Asks);
+            }
         }
     }
 }
