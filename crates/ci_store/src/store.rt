@@ -94,7 +94,7 @@ impl Store {
         ensures stored { self.new ≡ after self.old.basis (apply self.old.basis self.old.shared task request.now) }
     {
         self.parts.woken.clear();
-        self.parts.birth = None;
+        forget(&mut self.parts.birth);
         serving::serve(&mut self.parts, task, request)
     }
 
@@ -105,7 +105,7 @@ impl Store {
         ensures stored { self.new ≡ after self.old.basis (script self.old.basis self.old.shared event.now.what) }
     {
         self.parts.woken.clear();
-        self.parts.birth = None;
+        forget(&mut self.parts.birth);
         serving::happen(&mut self.parts, &event.what)
     }
 
@@ -170,5 +170,15 @@ impl Store {
         ensures within { length result.now ≤ MOST_LIVE_TASKS }
     {
         self.parts.tasks.live()
+    }
+}
+
+/// No birth is left. Where there is none nothing is written: to write that would blank the room of its 16 arguments.
+fn forget(birth: &mut Option<Birth>)
+    ensures { birth.new ≡ None }
+{
+    match birth {
+        Some(_) => *birth = None,
+        None => {}
     }
 }
