@@ -10,18 +10,21 @@ use ci_base::bounds::MOST_LIVE_TASKS;
 use ci_base::{OutOfMemory, Place};
 use ci_shared::Waiter;
 use std::alloc::Global;
+use std::collections::VecDeque;
 use std::marker::Model;
 
 /// The lines of all places, in which at most 64 tasks wait, each once. Contracts see one list of waiters by arrival; the
 /// line of a place is what of it has that place.
+///
+/// Whoever has waited longest is at the front, where mostly somebody leaves: a queue with two ends moves nobody then.
 #[derive(Debug, Drop)]
 pub struct Lines {
-    waiting: Vec<Waiter>,
+    waiting: VecDeque<Waiter>,
 }
 
 impl Model for Lines {
     ghost use Rattle.std.specs.Prelude.{List, ◌≤◌};
-    ghost use Rattle.std.specs.Vec.{vec_capacity};
+    ghost use Rattle.std.specs.VecDeque.{deque_capacity};
     ghost use Rattle.ci_base.specs.declared.bounds.TheConstants.{MOST_LIVE_TASKS};
     ghost use Rattle.ci_shared.specs.declared.waiter.Waiter.{Waiter};
     ghost use Rattle.ci_shared.specs.Roster.{Once};
@@ -30,7 +33,7 @@ impl Model for Lines {
 
     ghost view = { λ lines. lines.waiting.items };
 
-    ghost invariant = { λ lines. (MOST_LIVE_TASKS ≤ vec_capacity lines.waiting) × Once lines.waiting.items };
+    ghost invariant = { λ lines. (MOST_LIVE_TASKS ≤ deque_capacity lines.waiting) × Once lines.waiting.items };
 }
 
 impl Lines {
@@ -38,7 +41,7 @@ impl Lines {
     pub fn room(alloc: Global) -> Result<Lines, OutOfMemory>
         ensures { IfOk result (λ lines. lines ≡ []) }
     {
-        match Vec::with_capacity(alloc, MOST_LIVE_TASKS) {
+        match VecDeque::with_capacity(alloc, MOST_LIVE_TASKS) {
             Ok(waiting) => Ok(Lines { waiting }),
             Err(_) => Err(OutOfMemory),
         }
@@ -57,7 +60,7 @@ impl Lines {
             place,
             limit: due,
         };
-        self.waiting.push_reserved(waiter);
+        self.waiting.push_back_reserved(waiter);
     }
 
     /// The first in the line of the place leaves it.
@@ -66,7 +69,7 @@ impl Lines {
         ensures rest { self.new ≡ after (first_in place.now self.old) self.old }
         ensures once { Once self.old }
     {
-        match at_place(self.waiting.as_slice(), place) {
+        match at_place(&self.waiting, place) {
             Some(at) => Some(self.take_at(at).task),
             None => None,
         }
@@ -78,7 +81,7 @@ impl Lines {
         ensures place { IfSome result (λ place. seats task self.old ≡ place ∷ []) }
         ensures rest { self.new ≡ without task self.old }
     {
-        match of_task(self.waiting.as_slice(), task) {
+        match of_task(&self.waiting, task) {
             Some(at) => Some(self.take_at(at).place),
             None => None,
         }
@@ -89,7 +92,7 @@ impl Lines {
         ensures nowhere { IsNone result ↔ (seats task self.now ≡ []) }
         ensures place { IfSome result (λ place. seats task self.now ≡ place ∷ []) }
     {
-        match of_task(self.waiting.as_slice(), task) {
+        match of_task(&self.waiting, task) {
             Some(at) => {
                 let waiter = &self.waiting[at];
                 Some(waiter.place.copy())
@@ -104,7 +107,7 @@ impl Lines {
         ensures rest { self.new ≡ after (first_due now self.old) self.old }
         ensures once { Once self.old }
     {
-        match soonest(self.waiting.as_slice(), now) {
+        match soonest(&self.waiting, now) {
             Some(at) => {
                 let waiter = self.take_at(at);
                 Some((waiter.task, waiter.place))
@@ -120,6 +123,9 @@ impl Lines {
         ensures rest { self.new ≡ without result.task self.old }
         ensures once { Once self.old }
     {
-        self.waiting.remove(at)
+        match self.waiting.remove(at) {
+            Some(waiter) => waiter,
+            None => unreachable!(),
+        }
     }
 }

@@ -6,13 +6,15 @@ ghost use Rattle.ci_lines.specs.Found.{IsAt, better, first_due, waiter_of};
 
 use ci_base::Place;
 use ci_shared::Waiter;
+use std::collections::VecDeque;
 
 /// Where the first in the line of the place stands.
-pub(crate) fn at_place(waiting: &[Waiter], place: &Place) -> Option<usize>
-    ensures { IsAt waiting.now (first_in place.now waiting.now) result }
+pub(crate) fn at_place(waiting: &VecDeque<Waiter>, place: &Place) -> Option<usize>
+    ensures { IsAt waiting.now.items (first_in place.now waiting.now.items) result }
 {
     for i in 0..waiting.len() {
-        if waiting[i].place == *place {
+        let waiter = &waiting[i];
+        if waiter.place == *place {
             return Some(i);
         }
     }
@@ -20,11 +22,12 @@ pub(crate) fn at_place(waiting: &[Waiter], place: &Place) -> Option<usize>
 }
 
 /// Where the task stands.
-pub(crate) fn of_task(waiting: &[Waiter], task: u32) -> Option<usize>
-    ensures { IsAt waiting.now (waiter_of task waiting.now) result }
+pub(crate) fn of_task(waiting: &VecDeque<Waiter>, task: u32) -> Option<usize>
+    ensures { IsAt waiting.now.items (waiter_of task waiting.now.items) result }
 {
     for i in 0..waiting.len() {
-        if waiting[i].task == task {
+        let waiter = &waiting[i];
+        if waiter.task == task {
             return Some(i);
         }
     }
@@ -32,8 +35,8 @@ pub(crate) fn of_task(waiting: &[Waiter], task: u32) -> Option<usize>
 }
 
 /// Where the first by limit, and then by task, stands of those whose limit is at most `now`.
-pub(crate) fn soonest(waiting: &[Waiter], now: u64) -> Option<usize>
-    ensures { IsAt waiting.now (first_due now waiting.now) result }
+pub(crate) fn soonest(waiting: &VecDeque<Waiter>, now: u64) -> Option<usize>
+    ensures { IsAt waiting.now.items (first_due now waiting.now.items) result }
 {
     let mut best = None;
     let mut at = waiting.len();
@@ -45,11 +48,11 @@ pub(crate) fn soonest(waiting: &[Waiter], now: u64) -> Option<usize>
 }
 
 // The place `at` where its waiter is due and comes before that at `best`, and else `best`.
-fn sooner_of(waiting: &[Waiter], now: u64, at: usize, best: Option<usize>) -> Option<usize>
+fn sooner_of(waiting: &VecDeque<Waiter>, now: u64, at: usize, best: Option<usize>) -> Option<usize>
     ghost soonest: { Option Waiter }
-    requires at { at < length waiting.now }
-    requires best { IsAt waiting.now soonest best }
-    ensures { (w : Waiter) → slice_get waiting.now at ≡ Some w → IsAt waiting.now (better now w soonest) result }
+    requires at { at < length waiting.now.items }
+    requires best { IsAt waiting.now.items soonest best }
+    ensures { (w : Waiter) → slice_get waiting.now.items at ≡ Some w → IsAt waiting.now.items (better now w soonest) result }
 {
     if !is_due(&waiting[at], now) {
         return best;

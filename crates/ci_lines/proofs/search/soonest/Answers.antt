@@ -5,8 +5,8 @@ use Rattle.ci_lines.proofs.search.soonest.Goals as goal
 pub loop-at-preserved : goal.loop-at-preserved
 loop-at-preserved c = record {
   within = omega (arith, c.loop-at.invariant.within);
-  best = soonest_more c.args.waiting.now c.args.now c.loop-at.at (c.loop-at.at - 1) c.sooner_of-best.result (omega arith) c.loop-at.invariant.within c.sooner_of-best.ensures;
+  best = soonest_more c.args.waiting.now.items c.args.now c.loop-at.at (c.loop-at.at - 1) c.sooner_of-best.result (omega arith) c.loop-at.invariant.within c.sooner_of-best.ensures;
 }
 
 pub returns : goal.returns
-returns c = soonest_all c.args.waiting.now c.args.now c.loop-at.at c.loop-at.best (omega arith) c.loop-at.invariant.best
+returns c = soonest_all c.args.waiting.now.items c.args.now c.loop-at.at c.loop-at.best (omega arith) c.loop-at.invariant.best

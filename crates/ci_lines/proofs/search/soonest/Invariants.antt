@@ -5,12 +5,12 @@ use Rattle.ci_lines.proofs.search.soonest.Given as goal
 
 -- the best of those behind
 abbrev pub ghost-sooner_of : goal.ghost-sooner_of
-ghost-sooner_of a = soonest_of a.now (drop (a.at + 1) a.waiting.now)
+ghost-sooner_of a = soonest_of a.now (drop (a.at + 1) a.waiting.now.items)
 
 abbrev pub invariant-loop-at : goal.invariant-loop-at
 invariant-loop-at l = record {
-  within : l.at ≤ length l.waiting;
-  best : IsAt l.waiting (soonest_of l.now (drop l.at l.waiting)) l.best;
+  within : l.at ≤ length l.waiting.items;
+  best : IsAt l.waiting.items (soonest_of l.now (drop l.at l.waiting.items)) l.best;
 }
 
 abbrev pub decreases-loop-at : goal.decreases-loop-at
