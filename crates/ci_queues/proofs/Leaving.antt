@@ -134,12 +134,8 @@ gone_sound h xs es s fewer =
     record { apart = apart_kept h xs s.apart; held = held_kept h xs es s.held; few = omega (arith, few, fewer) }
 
 -- where the front stands, as the code finds it
-pub front_there : (h k : ℤ) (found es : List Element) (i : ℕ) → k ≡ h → found ≡ es → position_from (λ (e : Element). int_eq e.queue k) 0 found ≡ Some i → FirstAt (λ (e : Element). int_eq e.queue h) es i
-front_there h k found es i same is at =
-    first_at (λ (e : Element). int_eq e.queue h) es i
-    (ap₂ (λ (n : ℤ) (l : List Element). position_from (λ (e : Element). int_eq e.queue n) 0 l) (sym same) (sym is) ∙ at)
+pub front_there : (h k : ℤ) (es : List Element) (i : ℕ) → k ≡ h → position_from (λ (e : Element). int_eq e.queue k) 0 es ≡ Some i → FirstAt (λ (e : Element). int_eq e.queue h) es i
+front_there h k es i same at = first_at (λ (e : Element). int_eq e.queue h) es i (ap (λ (n : ℤ). position_from (λ (e : Element). int_eq e.queue n) 0 es) (sym same) ∙ at)
 
-pub nothing_there : (h k : ℤ) (found es : List Element) → k ≡ h → found ≡ es → position_from (λ (e : Element). int_eq e.queue k) 0 found ≡ None → Nowhere (λ (e : Element). int_eq e.queue h) es
-nothing_there h k found es same is at =
-    nowhere (λ (e : Element). int_eq e.queue h) 0 es
-    (ap₂ (λ (n : ℤ) (l : List Element). position_from (λ (e : Element). int_eq e.queue n) 0 l) (sym same) (sym is) ∙ at)
+pub nothing_there : (h k : ℤ) (es : List Element) → k ≡ h → position_from (λ (e : Element). int_eq e.queue k) 0 es ≡ None → Nowhere (λ (e : Element). int_eq e.queue h) es
+nothing_there h k es same at = nowhere (λ (e : Element). int_eq e.queue h) 0 es (ap (λ (n : ℤ). position_from (λ (e : Element). int_eq e.queue n) 0 es) (sym same) ∙ at)

@@ -3,6 +3,7 @@ ghost use Rattle.std.specs.Prelude.{◌≡◌, ◌≤◌, ◌<◌, List, length,
 ghost use Rattle.std.specs.List.{position_from};
 ghost use Rattle.std.specs.Ordering.{int_eq};
 ghost use Rattle.std.specs.Vec.{vec_capacity};
+ghost use Rattle.std.specs.VecDeque.{deque_capacity};
 ghost use Rattle.ci_shared.specs.Queues.{queue_named};
 ghost use Rattle.ci_shared.specs.Words.{same_text};
 ghost use Rattle.ci_queues.specs.declared.held.Element.{Element};
@@ -11,6 +12,7 @@ ghost use Rattle.ci_queues.specs.Held.{has_number, queues_of};
 use ci_base::Text;
 use ci_shared::Item;
 use ci_shared::words::is_same;
+use std::collections::VecDeque;
 
 /// A queue without its elements.
 #[derive(Debug, Drop)]
@@ -57,17 +59,17 @@ fn at_name(heads: &[Head], text: &Text) -> Option<usize>
 }
 
 /// Where the front element of a queue stands among those of all.
-pub fn at_front(elements: &[Element], number: i32) -> Option<usize>
-    ensures first { result ≡ position_from (λ element. int_eq element.queue number) 0 elements.now }
-    ensures within { IfSome result (λ at. at < length elements.now) }
+pub fn at_front(elements: &VecDeque<Element>, number: i32) -> Option<usize>
+    ensures first { result ≡ position_from (λ element. int_eq element.queue number) 0 elements.now.items }
+    ensures within { IfSome result (λ at. at < length elements.now.items) }
 {
     elements.iter().position(|element| element.queue == number)
 }
 
 /// How many elements a queue has.
-pub fn count_of(elements: &[Element], number: i32) -> usize
-    ensures exact { result ≡ length (filter (λ element. int_eq element.queue number) elements.now) }
-    ensures within { result ≤ length elements.now }
+pub fn count_of(elements: &VecDeque<Element>, number: i32) -> usize
+    ensures exact { result ≡ length (filter (λ element. int_eq element.queue number) elements.now.items) }
+    ensures within { result ≤ length elements.now.items }
 {
     elements
         .iter()
@@ -84,10 +86,10 @@ pub fn drop_head(heads: &mut Vec<Head>, number: i32)
 }
 
 /// The elements of the queue of the number go.
-pub fn drop_elements(elements: &mut Vec<Element>, number: i32)
+pub fn drop_elements(elements: &mut VecDeque<Element>, number: i32)
     ensures items { elements.new.items ≡ filter (λ element. not (int_eq element.queue number)) elements.old.items }
     ensures fewer { length elements.new.items ≤ length elements.old.items }
-    ensures capacity { vec_capacity elements.new ≡ vec_capacity elements.old }
+    ensures capacity { deque_capacity elements.new ≡ deque_capacity elements.old }
 {
     elements.retain(|element| element.queue != number);
 }

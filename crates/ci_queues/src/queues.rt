@@ -16,6 +16,7 @@ use ci_shared::Item;
 use ci_shared::answers::{coded, numbered, refused, with_element};
 use ci_shared::words::{is_empty, is_last, is_mode};
 use std::alloc::Global;
+use std::collections::VecDeque;
 use std::marker::Model;
 
 /// The queues, at most 256, with at most 4,096 elements in all. Contracts see the list of queues in the order in which
@@ -23,12 +24,13 @@ use std::marker::Model;
 #[derive(Debug, Drop)]
 pub struct Queues {
     heads: Vec<Head>,
-    elements: Vec<Element>,
+    elements: VecDeque<Element>,
 }
 
 impl Model for Queues {
     ghost use Rattle.std.specs.Prelude.{List, ◌≤◌};
     ghost use Rattle.std.specs.Vec.{vec_capacity};
+    ghost use Rattle.std.specs.VecDeque.{deque_capacity};
     ghost use Rattle.ci_base.specs.declared.bounds.TheConstants.{MOST_ELEMENTS, MOST_OBJECTS};
     ghost use Rattle.ci_shared.specs.Queues.{Queue};
     ghost use Rattle.ci_queues.specs.Held.{IsSound, queues_of};
@@ -37,7 +39,7 @@ impl Model for Queues {
 
     ghost view = { λ queues. queues_of queues.heads.items queues.elements.items };
 
-    ghost invariant = { λ queues. (MOST_OBJECTS ≤ vec_capacity queues.heads) × (MOST_ELEMENTS ≤ vec_capacity queues.elements) × IsSound queues.heads.items queues.elements.items };
+    ghost invariant = { λ queues. (MOST_OBJECTS ≤ vec_capacity queues.heads) × (MOST_ELEMENTS ≤ deque_capacity queues.elements) × IsSound queues.heads.items queues.elements.items };
 }
 
 impl Queues {
@@ -48,7 +50,7 @@ impl Queues {
         let Ok(heads) = Vec::with_capacity(alloc, MOST_OBJECTS) else {
             return Err(OutOfMemory);
         };
-        match Vec::with_capacity(alloc, MOST_ELEMENTS) {
+        match VecDeque::with_capacity(alloc, MOST_ELEMENTS) {
             Ok(elements) => Ok(Queues { heads, elements }),
             Err(_) => Err(OutOfMemory),
         }
@@ -208,7 +210,7 @@ impl Queues {
     fn count_in(&self, number: i32) -> i32
         ensures { result ≡ pos (length (items_in number self.now)) }
     {
-        count_of(self.elements.as_slice(), number) as i32
+        count_of(&self.elements, number) as i32
     }
 
     // The element comes last in its queue.
@@ -221,15 +223,18 @@ impl Queues {
             queue: number,
             item,
         };
-        self.elements.push_reserved(element);
+        self.elements.push_back_reserved(element);
     }
 
     // The front element leaves its queue.
     fn take_front(&mut self, number: i32) -> Option<Item>
         ensures { TakesFront number (items_in number self.old) self.old result self.new }
     {
-        match at_front(self.elements.as_slice(), number) {
-            Some(at) => Some(self.elements.remove(at).item),
+        let Some(at) = at_front(&self.elements, number) else {
+            return None;
+        };
+        match self.elements.remove(at) {
+            Some(element) => Some(element.item),
             None => None,
         }
     }

@@ -1,4 +1,4 @@
-use Rattle.std.proofs.Common.{◌≡◌, ◌≤◌, ℕ, ℤ, List, length, pos, sym, ap, ◌∙◌, arith, w32}
+use Rattle.std.proofs.Common.{◌≤◌, ℕ, ℤ, List, length, pos, sym, ap, ◌∙◌, arith, w32}
 use Rattle.std.specs.Prelude.{filter}
 use Rattle.std.specs.Ordering.{int_eq}
 use Rattle.std.proofs.lemmas.Int.{to_z-of_z, to_z_pos}
@@ -13,12 +13,10 @@ use Rattle.ci_queues.proofs.queues.Queues.count_in.Goals as goal
 pub returns : goal.returns
 returns c =
     let few : length c.self.inside.elements.items ≤ MOST_ELEMENTS = c.self.invariant.2.few in
-    let all : length c.as_slice.result.now ≡ length c.self.inside.elements.items = ap (λ (l : List Element). length l) c.as_slice.ensures.value in
-    to_z_pos w32 c.count_of.result (omega (arith, few, all, c.count_of.ensures.within))
+    to_z_pos w32 c.count_of.result (omega (arith, few, c.count_of.ensures.within))
     ∙ ap (λ (n : ℕ). pos n)
     (c.count_of.ensures.exact
-    ∙ ap (λ (h : ℤ). length (filter (λ (e : Element). int_eq e.queue h) c.as_slice.result.now)) (to_z-of_z w32 c.args.number c.ranges.number)
-    ∙ ap (λ (l : List Element). length (filter (λ (e : Element). int_eq e.queue c.args.number) l)) c.as_slice.ensures.value
+    ∙ ap (λ (h : ℤ). length (filter (λ (e : Element). int_eq e.queue h) c.self.inside.elements.items)) (to_z-of_z w32 c.args.number c.ranges.number)
     ∙ count_own c.args.number c.self.inside.elements.items
     ∙ ap (λ (l : List Item). length l) (sym (items_found c.args.number c.self.inside.heads.items c.self.inside.elements.items c.self.invariant.2.held))
     ∙ ap (λ (l : List Queue). length (items_in c.args.number l)) c.self.view_is)

@@ -1,5 +1,6 @@
 use Rattle.std.proofs.Common.{◌≡◌, ◌≤◌, ℤ, List, length, sym, ap, ap₂, ◌∙◌, subst, arith, to_z, of_z, w32}
 use Rattle.std.specs.Vec.{vec_capacity}
+use Rattle.std.specs.VecDeque.{deque_capacity}
 use Rattle.std.proofs.lemmas.Int.{to_z-of_z}
 use Rattle.ci_base.specs.declared.bounds.TheConstants.{MOST_ELEMENTS, MOST_OBJECTS}
 use Rattle.ci_shared.specs.Queues.{Queue, no_queue}
@@ -15,7 +16,7 @@ invariant_of-self c =
     let heads : c.drop_head.new.heads.items ≡ other_heads c.args.number c.self.inside.heads.items = c.drop_head.ensures.items ∙ ap (λ (z : ℤ). other_heads z c.self.inside.heads.items) e in
     let elements : c.drop_elements.new.elements.items ≡ other_elements c.args.number c.self.inside.elements.items = c.drop_elements.ensures.items ∙ ap (λ (z : ℤ). other_elements z c.self.inside.elements.items) e in
     let room : MOST_OBJECTS ≤ vec_capacity c.self.inside.heads = c.self.invariant.0 in
-    let space : MOST_ELEMENTS ≤ vec_capacity c.self.inside.elements = c.self.invariant.1 in
+    let space : MOST_ELEMENTS ≤ deque_capacity c.self.inside.elements = c.self.invariant.1 in
     let long : length c.drop_elements.new.elements.items ≡ length (other_elements c.args.number c.self.inside.elements.items) = ap (λ (l : List Element). length l) elements in (
       omega (arith, room, c.drop_head.ensures.capacity),
       omega (arith, space, c.drop_elements.ensures.capacity),
