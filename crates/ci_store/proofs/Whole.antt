@@ -52,6 +52,11 @@ does_serves x a p new d = record {
   leaves = record { shared = d.leaves.shared; deliveries = d.leaves.deliveries; birth = d.leaves.birth; layout = d.leaves.layout };
 }
 
+-- the answer and the parts are those of the case that it was
+pub told_so : {x : Served Reply} {p new new' : Parts} {a a' : Answer} → new' ≡ new → a' ≡ a → Serves x (replies.Answer a) p new → Serves x (replies.Answer a') p new'
+told_so {x = x} {p = p} {new = new} {a' = a'} parts_is answer_is s =
+    subst (λ (n : Parts). Serves x (replies.Answer a') p n) (sym parts_is) (subst (λ (b : Answer). Serves x (replies.Answer b) p new) (sym answer_is) s)
+
 -- the request, and the event, that it is
 pub asked_so : (p new : Parts) (u : ℕ) (q q' : Request) (r : Reply) → q' ≡ q → Serves (apply (basis_in p) (shared_of p) u q) r p new → Serves (apply (basis_in p) (shared_of p) u q') r p new
 asked_so p new u q q' r e s = subst (λ (x : Request). Serves (apply (basis_in p) (shared_of p) u x) r p new) (sym e) s

@@ -25,39 +25,36 @@ pub(crate) fn serve(parts: &mut Parts, task: u32, request: &Request) -> Reply
     requires formed { IsFormed (basis_in parts.old) request.now }
     ensures { Serves (apply (basis_in parts.old) (shared_of parts.old) task request.now) result parts.old parts.new }
 {
-    match request {
-        Request::Read { cell } => Reply::Answer(cells::read(parts, *cell)),
-        Request::Write { cell, value } => Reply::Answer(cells::write(parts, *cell, value)),
+    let answer = match request {
+        Request::Read { cell } => cells::read(parts, *cell),
+        Request::Write { cell, value } => cells::write(parts, *cell, value),
         Request::TaskNew {
             name,
             list,
             mode: _,
-        } => Reply::Answer(tasks::start(parts, name, list)),
-        Request::TaskKill { n } => kill(parts, task, *n),
-        Request::TaskSuspend { n } => Reply::Answer(tasks::suspend(parts, *n)),
-        Request::TaskResume { n } => Reply::Answer(tasks::resume(parts, *n)),
-        Request::TaskHnd { name } => Reply::Answer(tasks::handle(parts, task, name)),
-        Request::Sleep { n } => clock::sleep(parts, task, *n, 1000),
-        Request::SleepMS { n } => clock::sleep(parts, task, *n, 1),
-        Request::SemOpen { name, mode } => Reply::Answer(objects::open_semaphore(
-            parts, name, *mode,
-        )),
-        Request::SemWait { number, n } => objects::wait(parts, task, *number, *n),
-        Request::SemSignal { number } => Reply::Answer(objects::signal(parts, *number)),
-        Request::SemClose { number } => Reply::Answer(objects::close_semaphore(parts, *number)),
-        Request::QueOpen { name, mode } => Reply::Answer(objects::open_queue(parts, name, *mode)),
-        Request::QueWrite { number, sort, text } => {
-            Reply::Answer(objects::write(parts, *number, *sort, text))
-        }
-        Request::QueRead { number, mode } => objects::read(parts, task, *number, *mode),
-        Request::QueLength { number } => Reply::Answer(parts.queues.length(*number)),
-        Request::QueClose { number } => Reply::Answer(objects::close_queue(parts, *number)),
-        Request::Enter { text } => objects::enter(parts, task, text),
-        Request::Leave { text } => Reply::Answer(objects::depart(parts, task, text)),
-        Request::Trace { text: _ } => Reply::Answer(coded(0)),
-        Request::SysTime => Reply::Answer(system_time(parts)),
-        Request::End { code } => finish(parts, task, *code),
-    }
+        } => tasks::start(parts, name, list),
+        Request::TaskKill { n } => return kill(parts, task, *n),
+        Request::TaskSuspend { n } => tasks::suspend(parts, *n),
+        Request::TaskResume { n } => tasks::resume(parts, *n),
+        Request::TaskHnd { name } => tasks::handle(parts, task, name),
+        Request::Sleep { n } => return clock::sleep(parts, task, *n, 1000),
+        Request::SleepMS { n } => return clock::sleep(parts, task, *n, 1),
+        Request::SemOpen { name, mode } => objects::open_semaphore(parts, name, *mode),
+        Request::SemWait { number, n } => return objects::wait(parts, task, *number, *n),
+        Request::SemSignal { number } => objects::signal(parts, *number),
+        Request::SemClose { number } => objects::close_semaphore(parts, *number),
+        Request::QueOpen { name, mode } => objects::open_queue(parts, name, *mode),
+        Request::QueWrite { number, sort, text } => objects::write(parts, *number, *sort, text),
+        Request::QueRead { number, mode } => return objects::read(parts, task, *number, *mode),
+        Request::QueLength { number } => parts.queues.length(*number),
+        Request::QueClose { number } => objects::close_queue(parts, *number),
+        Request::Enter { text } => return objects::enter(parts, task, text),
+        Request::Leave { text } => objects::depart(parts, task, text),
+        Request::Trace { text: _ } => coded(0),
+        Request::SysTime => system_time(parts),
+        Request::End { code } => return finish(parts, task, *code),
+    };
+    Reply::Answer(answer)
 }
 
 // The task ends by itself, with 0 or by an error.
