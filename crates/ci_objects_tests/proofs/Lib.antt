@@ -1,3 +1,3 @@
 pub mod Crowded
-pub mod Free
+pub mod Long
 pub mod Numbers

@@ -18,3 +18,5 @@ mod sections;
 mod semaphores;
 #[cfg(test)]
 mod tests;
+#[cfg(test)]
+mod told;

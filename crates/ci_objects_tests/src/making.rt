@@ -1,9 +1,16 @@
 //! Queues that are opened one after another.
+ghost use Rattle.std.specs.Prelude.{◌≤ℤ◌, pos};
+
+use crate::told::{Heard, Told, text};
 use ci_base::{Answer, Text};
 use ci_queues::Queues;
 use std::alloc::Global;
 use std::marker::Model;
+use std::process::Abort;
 use std::test::Fail;
+
+/// A name, a mode, and what the opening gets.
+pub type Opening = (&'static str, i32, Told);
 
 /// Queues, and the next number, which is above theirs.
 #[derive(Drop)]
@@ -25,15 +32,25 @@ impl Model for Making {
 }
 
 impl Making {
-    pub fn new(alloc: Global) -> Result<Making, Fail> {
+    /// No queue is there; the first gets this number.
+    pub fn new(alloc: Global, next: i32) -> Result<Making, Fail>
+        requires { pos 1 ≤ℤ next }
+    {
         match Queues::room(alloc) {
-            Ok(queues) => Ok(Making { queues, next: 1 }),
+            Ok(queues) => Ok(Making { queues, next }),
             Err(_) => Err(Fail::from("no memory")),
         }
     }
 
     pub fn open(&mut self, name: &Text, mode: i32) -> Answer {
         self.queues.name(name, mode, &mut self.next)
+    }
+
+    /// Each opening gets what its row tells.
+    pub fn follow(&mut self, rt: &impl Abort, rows: &[Opening]) {
+        for (at, (name, mode, told)) in rows.iter().enumerate() {
+            Heard::answer(self.open(&text(rt, name), *mode)).is_told(rt, at, *told, &[]);
+        }
     }
 
     pub fn next(&self) -> i32 {

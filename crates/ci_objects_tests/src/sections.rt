@@ -1,15 +1,29 @@
 //! What critical sections answer. Where nobody waits, a call gets lines of its own.
-ghost use Rattle.std.specs.Prelude.{◌≤◌, ◌<◌, ◌+◌, length};
-ghost use Rattle.ci_base.specs.declared.bounds.TheConstants.{MOST_LIVE_TASKS, MOST_TASKS};
-ghost use Rattle.ci_objects_tests.specs.Coming.{AreFree};
-
-use crate::crowd::nobody;
-use ci_base::{Answer, Reply, Text, Woken};
-use ci_lines::Lines;
+use crate::crowd::Crowd;
+use crate::told::{Given, Got, Heard, Told, letter, text};
+use ci_base::Text;
 use ci_sections::Sections;
-use ci_shared::answers::coded;
 use std::alloc::Global;
+use std::process::Abort;
 use std::test::Fail;
+
+// A call.
+#[derive(Clone, Copy)]
+enum Call {
+    Enter(u32, &'static str),
+    Depart(u32, &'static str),
+    // The task leaves all its sections.
+    DepartAll(u32),
+    Owner(&'static str),
+    // The task leaves the line in which it waits.
+    Leave(u32),
+}
+
+// A call where nobody waits, and what it gets.
+type Alone = (Call, Told);
+
+// A call where others may wait, what it gets, and who is answered.
+type Row = (Call, Told, &'static [Given]);
 
 // No section is owned.
 fn none(alloc: Global) -> Result<Sections, Fail> {
@@ -19,159 +33,146 @@ fn none(alloc: Global) -> Result<Sections, Fail> {
     }
 }
 
-// A task enters where nobody waits.
-fn enter(alloc: Global, sections: &mut Sections, task: u32, text: &Text) -> Result<Reply, Fail>
-    requires least { 1 ≤ task }
-    requires most { task ≤ MOST_TASKS }
-{
-    let mut lines = nobody(alloc)?;
-    Ok(sections.enter(&mut lines, task, text))
+// A call is made.
+fn play(rt: &impl Abort, crowd: &mut Crowd, sections: &mut Sections, call: Call) -> Heard {
+    match call {
+        Call::Enter(task, name) => Heard::reply(crowd.enter(sections, task, &text(rt, name))),
+        Call::Depart(task, name) => Heard::both(crowd.depart(sections, task, &text(rt, name))),
+        Call::DepartAll(task) => Heard::others(crowd.depart_all(sections, task)),
+        Call::Owner(name) => Heard::only(Got::Owner(sections.owner(&text(rt, name)))),
+        Call::Leave(task) => Heard::only(Got::Left(crowd.leave(task))),
+    }
 }
 
-// A task leaves where nobody waits.
-fn depart(alloc: Global, sections: &mut Sections, task: u32, text: &Text) -> Result<Answer, Fail> {
-    let mut lines = nobody(alloc)?;
-    let mut woken = Woken::empty();
-    Ok(sections.depart(&mut lines, task, text, &mut woken))
+// Each call gets what its row tells, where nobody waits.
+fn follow_alone(
+    rt: &impl Abort,
+    alloc: Global,
+    sections: &mut Sections,
+    rows: &[Alone],
+) -> Result<(), Fail> {
+    for (at, (call, told)) in rows.iter().enumerate() {
+        let mut crowd = Crowd::new(alloc)?;
+        play(rt, &mut crowd, sections, *call).is_told(rt, at, *told, &[]);
+    }
+    Ok(())
 }
 
-// A task enters, or waits. Those with greater numbers are free to come.
-fn enter_in(sections: &mut Sections, lines: &mut Lines, task: u32, text: &Text) -> Reply
-    requires least { 1 ≤ task }
-    requires most { task ≤ MOST_TASKS }
-    requires free { AreFree task lines.old }
-    requires room { length lines.old < MOST_LIVE_TASKS }
-    ensures free { AreFree (task + 1) lines.new }
-    ensures long { length lines.new ≤ length lines.old + 1 }
-{
-    sections.enter(lines, task, text)
+// Each call gets what its row tells. First nobody waits.
+fn follow(
+    rt: &impl Abort,
+    alloc: Global,
+    sections: &mut Sections,
+    rows: &[Row],
+) -> Result<(), Fail> {
+    let mut crowd = Crowd::new(alloc)?;
+    for (at, (call, told, given)) in rows.iter().enumerate() {
+        play(rt, &mut crowd, sections, *call).is_told(rt, at, *told, *given);
+    }
+    Ok(())
 }
+
+static GIVEN_ON: [Row; 11] = [
+    (Call::Owner("s"), Told::Nobody, &[]),
+    (Call::Enter(1, "s"), Told::Coded(0), &[]),
+    (Call::Enter(1, "s"), Told::Coded(0), &[]),
+    (Call::Enter(2, "s"), Told::Waits, &[]),
+    (Call::Enter(3, "s"), Told::Waits, &[]),
+    (Call::Depart(2, "s"), Told::Coded(6), &[]),
+    (Call::Depart(1, "s"), Told::Coded(0), &[]),
+    (Call::Owner("s"), Told::Owner(1), &[]),
+    (Call::Depart(1, "s"), Told::Coded(0), &[(2, Told::Coded(0))]),
+    (Call::Owner("s"), Told::Owner(2), &[]),
+    (Call::Leave(2), Told::Nowhere, &[]),
+];
+
+static LEFT: [Alone; 4] = [
+    (Call::Depart(1, "s"), Told::Coded(6)),
+    (Call::Depart(2, "s"), Told::Coded(0)),
+    (Call::Owner("s"), Told::Nobody),
+    (Call::Depart(2, "s"), Told::Coded(6)),
+];
 
 #[test]
 fn the_last_leave_gives_a_section_to_the_first_in_line(rt: HostRuntime) -> Result<(), Fail> {
-    let alloc = rt.alloc();
-    let mut sections = none(alloc)?;
-    let name = Text::of(b"s").ok_or("one byte")?;
-    assert_eq!(rt; sections.owner(&name), None);
-    assert_eq!(rt;
-        enter(alloc, &mut sections, 1, &name)?,
-        Reply::Answer(coded(0))
-    );
-    assert_eq!(rt;
-        enter(alloc, &mut sections, 1, &name)?,
-        Reply::Answer(coded(0))
-    );
-    let mut lines = nobody(alloc)?;
-    assert_eq!(rt; enter_in(&mut sections, &mut lines, 2, &name), Reply::Waits);
-    assert_eq!(rt; enter_in(&mut sections, &mut lines, 3, &name), Reply::Waits);
-    assert_eq!(rt; depart(alloc, &mut sections, 2, &name)?, coded(6));
-    assert_eq!(rt; depart(alloc, &mut sections, 1, &name)?, coded(0));
-    assert_eq!(rt; sections.owner(&name), Some(1));
-    let mut woken = Woken::empty();
-    assert_eq!(rt; sections.depart(&mut lines, 1, &name, &mut woken), coded(0));
-    assert_eq!(rt; woken.deliveries().len(), 1);
-    assert_eq!(rt; woken.deliveries()[0].task, 2);
-    assert_eq!(rt; woken.deliveries()[0].answer, coded(0));
-    assert_eq!(rt; sections.owner(&name), Some(2));
-    assert_eq!(rt; lines.leave(2), None);
-    assert_eq!(rt; depart(alloc, &mut sections, 1, &name)?, coded(6));
-    assert_eq!(rt; depart(alloc, &mut sections, 2, &name)?, coded(0));
-    assert_eq!(rt; sections.owner(&name), None);
-    assert_eq!(rt; depart(alloc, &mut sections, 2, &name)?, coded(6));
-    Ok(())
+    let mut sections = none(rt.alloc())?;
+    follow(&rt, rt.alloc(), &mut sections, &GIVEN_ON)?;
+    follow_alone(&rt, rt.alloc(), &mut sections, &LEFT)
 }
+
+static BY_NAMES: [Row; 10] = [
+    (Call::Enter(1, "ab"), Told::Coded(0), &[]),
+    (Call::Enter(1, "a"), Told::Coded(0), &[]),
+    (Call::Enter(9, "b"), Told::Coded(0), &[]),
+    (Call::Enter(2, "ab"), Told::Waits, &[]),
+    (Call::Enter(3, "a"), Told::Waits, &[]),
+    (Call::Enter(4, "b"), Told::Waits, &[]),
+    (
+        Call::DepartAll(1),
+        Told::Done,
+        &[(3, Told::Coded(0)), (2, Told::Coded(0))],
+    ),
+    (Call::Owner("a"), Told::Owner(3), &[]),
+    (Call::Owner("ab"), Told::Owner(2), &[]),
+    (Call::Owner("b"), Told::Owner(9), &[]),
+];
 
 #[test]
 fn all_sections_of_a_task_are_given_on_by_their_names(rt: HostRuntime) -> Result<(), Fail> {
-    let alloc = rt.alloc();
-    let mut sections = none(alloc)?;
-    let first = Text::of(b"a").ok_or("one byte")?;
-    let second = Text::of(b"ab").ok_or("two bytes")?;
-    let other = Text::of(b"b").ok_or("one byte")?;
-    assert_eq!(rt;
-        enter(alloc, &mut sections, 1, &second)?,
-        Reply::Answer(coded(0))
-    );
-    assert_eq!(rt;
-        enter(alloc, &mut sections, 1, &first)?,
-        Reply::Answer(coded(0))
-    );
-    assert_eq!(rt;
-        enter(alloc, &mut sections, 9, &other)?,
-        Reply::Answer(coded(0))
-    );
-    let mut lines = nobody(alloc)?;
-    assert_eq!(rt;
-        enter_in(&mut sections, &mut lines, 2, &second),
-        Reply::Waits
-    );
-    assert_eq!(rt;
-        enter_in(&mut sections, &mut lines, 3, &first),
-        Reply::Waits
-    );
-    assert_eq!(rt;
-        enter_in(&mut sections, &mut lines, 4, &other),
-        Reply::Waits
-    );
-    let mut woken = Woken::empty();
-    sections.depart_all(&mut lines, 1, &mut woken);
-    assert_eq!(rt; woken.deliveries().len(), 2);
-    assert_eq!(rt; woken.deliveries()[0].task, 3);
-    assert_eq!(rt; woken.deliveries()[1].task, 2);
-    assert_eq!(rt; sections.owner(&first), Some(3));
-    assert_eq!(rt; sections.owner(&second), Some(2));
-    assert_eq!(rt; sections.owner(&other), Some(9));
+    let mut sections = none(rt.alloc())?;
+    follow(&rt, rt.alloc(), &mut sections, &BY_NAMES)
+}
+
+// Task 1 enters the section where nobody waits.
+fn enters(
+    rt: &impl Abort,
+    alloc: Global,
+    sections: &mut Sections,
+    at: usize,
+    name: &Text,
+) -> Result<(), Fail> {
+    let mut crowd = Crowd::new(alloc)?;
+    let reply = crowd.enter(sections, 1, name);
+    Heard::reply(reply).is_told(rt, at, Told::Coded(0), &[]);
     Ok(())
 }
+
+// Task 1 enters a section for each byte.
+fn enter_all(rt: &impl Abort, alloc: Global, sections: &mut Sections) -> Result<(), Fail> {
+    for byte in 0..=255 {
+        enters(rt, alloc, sections, usize::from(byte), &letter(rt, byte))?;
+    }
+    Ok(())
+}
+
+static NO_NAME: [Alone; 1] = [(Call::Enter(1, ""), Told::Coded(10))];
+
+static FULL: [Alone; 3] = [
+    (Call::Enter(1, "\x07\x07"), Told::Coded(11)),
+    (Call::Enter(2, "\x07"), Told::Waits),
+    (Call::Enter(1, "\x07"), Told::Coded(0)),
+];
 
 #[test]
 fn at_most_256_sections_are_owned(rt: HostRuntime) -> Result<(), Fail> {
-    let alloc = rt.alloc();
-    let mut sections = none(alloc)?;
-    assert_eq!(rt;
-        enter(alloc, &mut sections, 1, &Text::empty())?,
-        Reply::Answer(coded(10))
-    );
-    for byte in 0..=255 {
-        let name = Text::of(&[byte]).ok_or("one byte")?;
-        assert_eq!(rt;
-            enter(alloc, &mut sections, 1, &name)?,
-            Reply::Answer(coded(0))
-        );
-    }
-    let one = Text::of(&[7]).ok_or("one byte")?;
-    let two = Text::of(&[7, 7]).ok_or("two bytes")?;
-    assert_eq!(rt;
-        enter(alloc, &mut sections, 1, &two)?,
-        Reply::Answer(coded(11))
-    );
-    assert_eq!(rt; enter(alloc, &mut sections, 2, &one)?, Reply::Waits);
-    assert_eq!(rt;
-        enter(alloc, &mut sections, 1, &one)?,
-        Reply::Answer(coded(0))
-    );
-    Ok(())
+    let mut sections = none(rt.alloc())?;
+    follow_alone(&rt, rt.alloc(), &mut sections, &NO_NAME)?;
+    enter_all(&rt, rt.alloc(), &mut sections)?;
+    follow_alone(&rt, rt.alloc(), &mut sections, &FULL)
 }
+
+static ONCE_MORE: [Alone; 3] = [
+    (Call::Enter(1, "s"), Told::Coded(11)),
+    (Call::Depart(1, "s"), Told::Coded(0)),
+    (Call::Enter(1, "s"), Told::Coded(0)),
+];
 
 #[test]
 fn a_section_is_entered_at_most_65535_times(rt: HostRuntime) -> Result<(), Fail> {
-    let alloc = rt.alloc();
-    let mut sections = none(alloc)?;
-    let name = Text::of(b"s").ok_or("one byte")?;
-    for _time in 0..65_535 {
-        assert_eq!(rt;
-            enter(alloc, &mut sections, 1, &name)?,
-            Reply::Answer(coded(0))
-        );
+    let mut sections = none(rt.alloc())?;
+    let name = letter(&rt, b's');
+    for time in 0..65_535 {
+        enters(&rt, rt.alloc(), &mut sections, time, &name)?;
     }
-    assert_eq!(rt;
-        enter(alloc, &mut sections, 1, &name)?,
-        Reply::Answer(coded(11))
-    );
-    assert_eq!(rt; depart(alloc, &mut sections, 1, &name)?, coded(0));
-    assert_eq!(rt;
-        enter(alloc, &mut sections, 1, &name)?,
-        Reply::Answer(coded(0))
-    );
-    Ok(())
+    follow_alone(&rt, rt.alloc(), &mut sections, &ONCE_MORE)
 }

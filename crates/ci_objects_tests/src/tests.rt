@@ -1,110 +1,61 @@
-//! What the calls answer. The helpers keep count of who may still come and how many wait, for the conditions of the calls.
-ghost use Rattle.std.specs.Prelude.{◌≡◌, ◌≤◌, ◌<◌, ◌+◌, ℕ, length};
-ghost use Rattle.ci_base.specs.declared.bounds.TheConstants.{MOST_LIVE_TASKS, MOST_TASKS};
-ghost use Rattle.ci_objects_tests.specs.Coming.{AreFree};
+//! What cells hold.
+ghost use Rattle.std.specs.Prelude.{◌≡◌, ◌∷◌, [], IfOk, pos};
+ghost use Rattle.ci_base.specs.declared.value.Kind.TheVariants as kinds;
+ghost use Rattle.ci_base.specs.declared.value.Value.TheVariants as values;
 
-use ci_base::{
-    Answer, CellHead, CellHeadList, GlobalList, HeadList, Kind, Layout, Reply, Text, Value, Woken,
-};
-use ci_lines::Lines;
-use ci_sems::Sems;
-use ci_shared::answers::coded;
+use crate::told::letter;
+use ci_base::{CellHead, CellHeadList, GlobalList, HeadList, Kind, Layout, Text, Value};
 use ci_vars::Vars;
+use std::alloc::Global;
 use std::test::Fail;
 
-// A task asks for a unit at the moment 0.
-fn wait(sems: &mut Sems, lines: &mut Lines, task: u32, number: i32, limit: i32) -> Reply
-    requires least { 1 ≤ task }
-    requires most { task ≤ MOST_TASKS }
-    requires free { AreFree task lines.old }
-    requires room { length lines.old < MOST_LIVE_TASKS }
-    ensures free { AreFree (task + 1) lines.new }
-    ensures long { length lines.new ≤ length lines.old + 1 }
+// A cell with the empty text, and one with 7.
+fn heads(alloc: Global) -> Result<Vec<CellHead>, Fail>
+    ensures { IfOk result (λ heads. heads.items ≡ record { kind = kinds.Str; first = values.Str [] } ∷ record { kind = kinds.Int; first = values.Int (pos 7) } ∷ []) }
 {
-    sems.wait(lines, task, number, limit, 0)
-}
-
-// A unit is given; the answer, and who was answered.
-fn signal(sems: &mut Sems, lines: &mut Lines, number: i32) -> (Answer, Woken)
-    requires { length lines.old ≤ MOST_LIVE_TASKS }
-    ensures free { (n : ℕ) → AreFree n lines.old → AreFree n lines.new }
-    ensures long { length lines.new ≤ length lines.old }
-{
-    let mut woken = Woken::empty();
-    let answer = sems.signal(lines, number, &mut woken);
-    (answer, woken)
-}
-
-// A semaphore ends; the answer, and who was answered.
-fn shut(sems: &mut Sems, lines: &mut Lines, number: i32) -> (Answer, Woken)
-    requires { length lines.old ≤ MOST_LIVE_TASKS }
-{
-    let mut woken = Woken::empty();
-    let answer = sems.shut(lines, number, &mut woken);
-    (answer, woken)
-}
-
-#[test]
-fn a_semaphore_serves_who_came_first(rt: HostRuntime) -> Result<(), Fail> {
-    let (Ok(mut sems), Ok(mut lines)) = (Sems::room(rt.alloc()), Lines::room(rt.alloc())) else {
-        return Err(Fail::from("no memory"));
+    let text = CellHead {
+        kind: Kind::Str,
+        first: Value::Str(Text::empty()),
     };
-    let name = Text::of(b"s").ok_or("one byte")?;
-    let mut next = 1;
-    let made = sems.name(&name, 2, &mut next);
-    assert_eq!(rt; made.value, Value::Int(1));
-    assert_eq!(rt; next, 2);
-    assert_eq!(rt;
-        wait(&mut sems, &mut lines, 1, 1, -1),
-        Reply::Answer(coded(0))
-    );
-    assert_eq!(rt; wait(&mut sems, &mut lines, 2, 1, -1), Reply::Waits);
-    assert_eq!(rt; wait(&mut sems, &mut lines, 3, 1, -1), Reply::Waits);
-    let (answer, woken) = signal(&mut sems, &mut lines, 1);
-    assert_eq!(rt; answer, coded(0));
-    assert_eq!(rt; woken.deliveries().len(), 1);
-    assert_eq!(rt; woken.deliveries()[0].task, 2);
-    assert_eq!(rt; woken.deliveries()[0].answer, coded(0));
-    assert_eq!(rt;
-        wait(&mut sems, &mut lines, 4, 1, 0),
-        Reply::Answer(coded(2))
-    );
-    let (answer, woken) = shut(&mut sems, &mut lines, 1);
-    assert_eq!(rt; answer, coded(0));
-    assert_eq!(rt; woken.deliveries().len(), 1);
-    assert_eq!(rt; woken.deliveries()[0].task, 3);
-    assert_eq!(rt; woken.deliveries()[0].answer, coded(1));
-    Ok(())
+    let number = CellHead {
+        kind: Kind::Int,
+        first: Value::Int(7),
+    };
+    Ok(vec![in alloc; text, number]?)
+}
+
+// These cells.
+fn cells(alloc: Global) -> Result<Vars, Fail>
+    ensures { IfOk result (λ vars. vars ≡ values.Str [] ∷ values.Int (pos 7) ∷ []) }
+{
+    let members = heads(alloc)?;
+    let layout = Layout {
+        functions: HeadList::of(Vec::new(alloc)),
+        cells: CellHeadList::of(members),
+        globals: GlobalList::of(Vec::new(alloc)),
+    };
+    match Vars::start(alloc, &layout) {
+        Ok(vars) => Ok(vars),
+        Err(_) => Err(Fail::from("no memory")),
+    }
+}
+
+// The text of 255 letters.
+fn long(alloc: Global) -> Result<Text, Fail> {
+    let bytes = vec![in alloc; b'x'; 255]?;
+    Ok(Text::of(bytes.as_slice()).ok_or("255 bytes")?)
 }
 
 #[test]
 fn a_cell_holds_what_was_written_last_and_a_shorter_text_is_whole(
     rt: HostRuntime,
 ) -> Result<(), Fail> {
-    let long = vec![in rt.alloc(); b'x'; 255]?;
-    let mut heads = Vec::new(rt.alloc());
-    heads.push(CellHead {
-        kind: Kind::Str,
-        first: Value::Str(Text::empty()),
-    })?;
-    heads.push(CellHead {
-        kind: Kind::Int,
-        first: Value::Int(7),
-    })?;
-    let layout = Layout {
-        functions: HeadList::of(Vec::new(rt.alloc())),
-        cells: CellHeadList::of(heads),
-        globals: GlobalList::of(Vec::new(rt.alloc())),
-    };
-    let Ok(mut vars) = Vars::start(rt.alloc(), &layout) else {
-        return Err(Fail::from("no memory"));
-    };
-    vars.write(0, Value::Str(Text::of(long.as_slice()).ok_or("255 bytes")?));
-    let one = Text::of(b"a").ok_or("one byte")?;
-    vars.write(0, Value::Str(one.copy()));
+    let mut vars = cells(rt.alloc())?;
+    vars.write(0, Value::Str(long(rt.alloc())?));
+    vars.write(0, Value::Str(letter(&rt, b'a')));
     assert_eq!(rt; vars.read(1), Value::Int(7));
     vars.write(1, Value::Int(-5));
-    assert_eq!(rt; vars.read(0), Value::Str(one));
+    assert_eq!(rt; vars.read(0), Value::Str(letter(&rt, b'a')));
     assert_eq!(rt; vars.read(1), Value::Int(-5));
     Ok(())
 }

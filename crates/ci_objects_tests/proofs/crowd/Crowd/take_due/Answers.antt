@@ -5,5 +5,5 @@ use Rattle.ci_objects_tests.proofs.crowd.Crowd.take_due.Goals as goal
 pub invariant_of-self : goal.invariant_of-self
 invariant_of-self c =
     let few : length c.take_due.new.self ≤ c.self.inside.many - 1 =
-    fewer_due c.args.now c.self.inside.lines c.take_due.new.self c.self.inside.many c.in-Some.taken (sym c.in-Some.is ∙ c.take_due.ensures.found) c.take_due.ensures.rest c.self.invariant in
-    omega (arith, few, c.saturating_sub-self-inside.ensures)
+    fewer_due c.args.now c.self.inside.lines c.take_due.new.self c.self.inside.many c.in-Some.taken (sym c.in-Some.is ∙ c.take_due.ensures.found) c.take_due.ensures.rest c.self.invariant.0 in
+    (omega (arith, few, c.saturating_sub-self-inside.ensures), omega (arith, c.self.invariant.1, c.saturating_sub-self-inside.ensures))
